@@ -1,0 +1,5 @@
+pub mod RowLists
+pub mod Gathers
+pub mod Lists
+pub mod Laws
+pub mod Counts

@@ -1,0 +1,33 @@
+-- Lists of optional values. Assumes nothing.
+use mathlib.Core.Path.{_≡_, refl, sym, ap, _∙_}
+use mathlib.Core.List.{List, [], _∷_, _++_}
+use Prim.Native.Nat.{ℕ, zero, suc, _+_, _≤_, _<_}
+use native.Mathlib.Omega.{arith}
+use lib.ListN.{length, drop, length-append}
+use Rattle.std.specs.declared.option.Option.{Option}
+use Rattle.std.specs.declared.option.Option.the-variants.{Some, None}
+use Rattle.std.specs.Iters.{folded}
+use Rattle.accumulators.specs.Sql.{non-null}
+
+pub drop-past : {A : Type 0} (xs : List A) (i : ℕ) → length xs ≤ i → drop i xs ≡ []
+drop-past [] zero h = refl
+drop-past [] (suc i) h = refl
+drop-past (x ∷ xs) zero h = absurd (omega arith)
+drop-past (x ∷ xs) (suc i) h = drop-past xs i (omega arith)
+
+pub folded-++ : {S V : Type 0} (f : S → V → S) (s : S) (xs ys : List V) → folded f s (xs ++ ys) ≡ folded f (folded f s xs) ys
+folded-++ f s [] ys = refl
+folded-++ f s (x ∷ xs) ys = folded-++ f (f s x) xs ys
+
+pub non-null-++ : {V : Type 0} (xs ys : List (Option V)) → non-null (xs ++ ys) ≡ non-null xs ++ non-null ys
+non-null-++ [] ys = refl
+non-null-++ (None ∷ xs) ys = non-null-++ xs ys
+non-null-++ (Some v ∷ xs) ys = ap (λ z. v ∷ z) (non-null-++ xs ys)
+
+pub present-++ : {V : Type 0} (xs ys : List (Option V)) → length (non-null (xs ++ ys)) ≡ length (non-null xs) + length (non-null ys)
+present-++ xs ys = ap length (non-null-++ xs ys) ∙ length-append (non-null xs) (non-null ys)
+
+pub present-few : {V : Type 0} (xs : List (Option V)) → length (non-null xs) ≤ length xs
+present-few [] = omega arith
+present-few (None ∷ xs) = omega (arith, present-few xs)
+present-few (Some v ∷ xs) = omega (arith, present-few xs)

@@ -1,0 +1,33 @@
+-- What the calls of an accumulator return and leave. Assumes nothing.
+use mathlib.Core.Path.{_≡_}
+use mathlib.Core.List.{List, _++_}
+use Prim.Native.Nat.{ℕ, _+_, _≤_, _<_}
+use lib.ListN.{length, drop}
+use denote.Ref.{RefT, now}
+use Rattle.std.specs.declared.option.Option.{Option}
+use Rattle.std.specs.declared.result.Result.{Result}
+use Rattle.std.specs.declared.result.Result.the-variants.{Ok, Err}
+use Rattle.accumulators.specs.Rows.{rows, mask-bytes}
+use Rattle.accumulators.specs.Batches.{rows-of}
+use Rattle.accumulators.specs.Figures.{Figure, rows-held}
+use Rattle.accumulators.specs.declared.arguments.Arguments.{Arguments}
+use Rattle.accumulators.specs.declared.refusals.Full.{Full}
+use Rattle.accumulators.specs.declared.refusals.Short.{Short}
+use Rattle.accumulators.specs.declared.refusals.Misfit.{Misfit}
+use Rattle.accumulators.specs.declared.refusals.Misfit.the-variants.{Presence, Mask}
+
+-- columns of one length give their rows; else the first that departs is named
+abbrev pub Makes : {V : Type 0} → List V → List ℕ → Option (RefT (List ℕ)) → Result (Arguments V) Misfit → Type 0
+Makes vs ps m (Ok a) = (length ps ≡ length vs) × (length (mask-bytes m (length vs)) ≡ length vs) × (rows-of a ≡ rows vs ps (mask-bytes m (length vs)))
+Makes vs ps m (Err Presence) = length ps ≡ length vs → ⊥
+Makes vs ps m (Err Mask) = (length ps ≡ length vs) × (length (mask-bytes m (length vs)) ≡ length vs → ⊥)
+
+-- a batch is taken, or refused with the rows held and offered, exactly where they would pass the capacity
+abbrev pub Updates : {V Answer A : Type 0} → Figure V Answer → (A → List ℕ) → A → A → List (Option V) → Result (Unit {0}) Full → Type 0
+Updates F numbers a a′ ys (Ok u) = (rows-held (numbers a) + length ys ≤ F .capacity) × (numbers a′ ≡ F .updated (numbers a) ys)
+Updates F numbers a a′ ys (Err e) = (F .capacity < rows-held (numbers a) + length ys) × (a′ ≡ a) × (e .held ≡ rows-held (numbers a)) × (e .offered ≡ length ys)
+
+-- the numbers in front and the rest as it was; or nothing, and how many are needed
+abbrev pub Writes : List ℕ → List ℕ → List ℕ → Result ℕ Short → Type 0
+Writes ns out out′ (Ok n) = (n ≡ length ns) × (length ns ≤ length out) × (out′ ≡ ns ++ drop (length ns) out)
+Writes ns out out′ (Err e) = (length out < length ns) × (e .needed ≡ length ns) × (out′ ≡ out)

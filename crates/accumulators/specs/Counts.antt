@@ -1,0 +1,27 @@
+-- COUNT: rows, and those not missing. Assumes nothing.
+use mathlib.Core.Path.{_≡_}
+use mathlib.Core.Bool.{cond}
+use mathlib.Core.List.{List, [], _∷_}
+use Prim.Native.Nat.{ℕ, _+_, _-_, _%_, _^_}
+use lib.Dec.{ltb}
+use lib.ListN.{length, getD}
+use Rattle.std.specs.declared.option.Option.{Option}
+use Rattle.std.specs.declared.option.Option.the-variants.{Some}
+use Rattle.accumulators.specs.Sql.{non-null}
+use Rattle.accumulators.specs.Figures.{Figure, rows-held}
+
+abbrev pub present-held : List ℕ → ℕ
+present-held s = getD s 1 0
+
+abbrev pub count : (V : Type 0) → Figure V ℕ
+count V = record {
+  capacity = 4096;
+  answer = λ xs. Some (length (non-null xs));
+  state = λ xs. length xs ∷ length (non-null xs) ∷ [];
+  answered = λ s. Some (present-held s);
+  updated = λ s ys. (rows-held s + length ys) ∷ ((present-held s + length (non-null ys)) % 2 ^ 64) ∷ []
+}
+
+-- non-missing stops at 0
+abbrev pub count-retracted : {V : Type 0} → List ℕ → List (Option V) → List ℕ
+count-retracted s ys = cond (ltb (rows-held s) (length ys)) (0 ∷ 0 ∷ []) ((rows-held s - length ys) ∷ (present-held s - length (non-null ys)) ∷ [])

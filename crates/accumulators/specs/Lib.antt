@@ -1,0 +1,6 @@
+pub mod Rows
+pub mod Batches
+pub mod Sql
+pub mod Figures
+pub mod Calls
+pub mod Counts

@@ -1,0 +1,66 @@
+//! Making arguments of columns, and reading their rows.
+
+ghost use mathlib.Core.Path.{_≡_};
+ghost use mathlib.Core.List.{_++_};
+ghost use Prim.Native.Nat.{_<_, suc};
+ghost use lib.ListN.{length, drop, take};
+ghost use Rattle.std.specs.Iters.{folded};
+ghost use Rattle.std.specs.Vec.{listOf};
+ghost use Rattle.accumulators.specs.Rows.{kept, optional};
+ghost use Rattle.accumulators.specs.Batches.{rows-of, batch};
+ghost use Rattle.accumulators.specs.Sql.{non-null};
+
+use crate::arguments::Arguments;
+use crate::gather::Gather;
+use crate::gather::Tally;
+
+/// The argument of a row with this presence byte.
+fn argument<V: Copy>(value: V, presence: u8) -> Option<V>
+    ensures { λ r. ⌜ r ≡ optional value presence ⌝ }
+{
+    if presence == 0 { None } else { Some(value) }
+}
+
+impl<'a, V: Copy> Arguments<'a, V> {
+    /// The number of rows, kept or not.
+    pub fn len(&self) -> usize
+        ensures rows { λ r. ⌜ r ≡ length (rows-of (now (self .entry))) ⌝ }
+        ensures columns { λ r. ⌜ r ≡ length (now (now (self .entry) .values)) ⌝ }
+    {
+        self.values.len()
+    }
+
+    /// What row `i` puts into a batch: nothing where the filter leaves it out.
+    pub(crate) fn row(&self, i: usize) -> Option<Option<V>>
+        requires { ⌜ i < length (now (now self .values)) ⌝ }
+        ensures { λ r. ⌜ kept (drop i (rows-of (now (self .entry)))) ≡ listOf r ++ kept (drop (suc i) (rows-of (now (self .entry)))) ⌝ }
+    {
+        let values = self.values;
+        let presence = self.presence;
+        let argument = argument(values[i], presence[i]);
+        match self.mask {
+            None => Some(argument),
+            Some(mask) => if mask[i] == 0 { None } else { Some(argument) },
+        }
+    }
+
+    /// Counts the rows of the batch, and hands its values on, oldest first.
+    pub(crate) fn gather<G: Gather<V>>(&self, figure: &mut G) -> Tally
+        ensures rows { λ r. ⌜ r .rows ≡ length (batch (now (self .entry))) ⌝ }
+        ensures present { λ r. ⌜ r .present ≡ length (non-null (batch (now (self .entry)))) ⌝ }
+        ensures figure { λ _. ⌜ now (figure .exit) ≡ folded (G·Gather .gathered) (now (figure .entry)) (non-null (batch (now (self .entry)))) ⌝ }
+    {
+        let mut rows = 0;
+        let mut present = 0;
+        for i in 0..self.len() {
+            if let Some(argument) = self.row(i) {
+                rows += 1;
+                if let Some(value) = argument {
+                    present += 1;
+                    figure.gather(value);
+                }
+            }
+        }
+        Tally { rows, present }
+    }
+}

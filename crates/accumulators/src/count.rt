@@ -1,0 +1,90 @@
+//! COUNT: how many rows are not missing, for every kind.
+
+ghost use mathlib.Core.Path.{_≡_};
+ghost use mathlib.Core.List.{[], _∷_};
+ghost use Prim.Native.Nat.{_≤_};
+ghost use lib.ListN.{length};
+ghost use Rattle.std.specs.declared.option.Option.the-variants.{Some};
+ghost use Rattle.accumulators.specs.Figures.{Within};
+ghost use Rattle.accumulators.specs.Counts.{count, count-retracted};
+ghost use Rattle.accumulators.specs.Sql.{non-null};
+
+use crate::accumulator::Accumulator;
+use crate::accumulator::Retract;
+use crate::arguments::Arguments;
+use crate::gather::Nothing;
+use crate::gather::NothingGather;
+use crate::refusals::Full;
+use crate::refusals::Short;
+use kinds::ordered::Ordered;
+use std::marker::PhantomData;
+
+/// The most rows that an accumulator holds which does not keep them.
+pub const CAPACITY: usize = 4096;
+
+#[derive(Drop)]
+pub struct Count<V> {
+    rows: usize,
+    present: u64,
+    kind: PhantomData<V>,
+    ghost few: { rows ≤ 4096 },
+}
+
+pub impl<V: Ordered> Accumulator for Count<V> as CountAccumulator {
+    type Value = V;
+    type Answer = u64;
+
+    ghost numbers = { λ c. c .rows ∷ c .present ∷ [] };
+
+    ghost figure = { count V };
+
+    ghost stands = { Within (count V) };
+
+    ghost standard = { λ xs r. r ≡ Some (length (non-null xs)) };
+
+    fn new() -> Count<V> {
+        Count { rows: 0, present: 0, kind: PhantomData }
+    }
+
+    fn update(&mut self, rows: &Arguments<V>) -> Result<(), Full> {
+        let batch = rows.gather(&mut Nothing);
+        let held = self.rows;
+        if batch.rows > CAPACITY - held {
+            return Err(Full { held, offered: batch.rows });
+        }
+        self.rows = held + batch.rows;
+        self.present = self.present.wrapping_add(batch.present as u64);
+        Ok(())
+    }
+
+    fn evaluate(&self) -> Option<u64> {
+        Some(self.present)
+    }
+
+    fn state_len(&self) -> usize {
+        2
+    }
+
+    fn state(&self, out: &mut [u64]) -> Result<usize, Short> {
+        if out.len() < 2 {
+            return Err(Short { needed: 2 });
+        }
+        out[0] = self.rows as u64;
+        out[1] = self.present;
+        Ok(2)
+    }
+}
+
+pub impl<V: Ordered> Retract for Count<V> as CountRetract {
+    ghost retracted = { count-retracted };
+
+    fn retract(&mut self, rows: &Arguments<V>) {
+        let batch = rows.gather(&mut Nothing);
+        if batch.rows > self.rows {
+            *self = Count::new();
+        } else {
+            self.rows -= batch.rows;
+            self.present = self.present.saturating_sub(batch.present as u64);
+        }
+    }
+}

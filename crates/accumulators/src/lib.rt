@@ -1,0 +1,7 @@
+//! Accumulators: running figures over the optional values of the rows that they were given.
+
+pub mod accumulator;
+pub mod arguments;
+pub mod count;
+mod gather;
+pub mod refusals;

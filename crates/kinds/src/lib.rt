@@ -1,0 +1,6 @@
+//! Kinds of value: what can be put in order, and what can also be measured.
+
+pub mod float;
+pub mod ordered;
+pub mod tick;
+pub mod whole;
