@@ -2,9 +2,12 @@
 use mathlib.Core.Path.{_≡_, refl, sym, ap, _∙_, subst}
 use mathlib.Core.Bool.{Bool, true, false, cond, not}
 use mathlib.Core.List.{List, [], _∷_, _++_}
-use Prim.Native.Nat.{ℕ, zero, suc, _+_, _≤_, _<_}
+use Prim.Native.Nat.{ℕ, zero, suc, _+_, _-_, _≤_, _<_, min}
 use native.Mathlib.Omega.{arith}
+use mathlib.Core.Logic.{inl, inr}
 use lib.Dec.{eqb}
+use Rattle.std.proofs.shelf.Tests.{cases-lt}
+use Rattle.std.proofs.shelf.Lists.{take-replicate, drop-replicate, drop-take, drop-all, take-all, length-take, length-drop, length-replicate}
 use lib.ListN.{length, getD, take, drop, replicate}
 use borrow.Author.Tests.{eq-eqb, ne-eqb}
 use Rattle.std.specs.declared.option.Option.{Option}
@@ -29,6 +32,67 @@ rows-at (w ∷ vs) [] ms i v p m h = absurd (omega arith)
 rows-at (w ∷ vs) (q ∷ ps) [] i v p m h = absurd (omega arith)
 rows-at (w ∷ vs) (q ∷ ps) (n ∷ ms) zero v p m h = refl
 rows-at (w ∷ vs) (q ∷ ps) (n ∷ ms) (suc i) v p m h = rows-at vs ps ms i v (omega arith) (omega arith) (omega arith)
+
+pub rows-take : {V : Type 0} (n : ℕ) (vs : List V) (ps ms : List ℕ) → rows (take n vs) (take n ps) (take n ms) ≡ take n (rows vs ps ms)
+rows-take zero vs ps ms = refl
+rows-take (suc n) [] ps ms = refl
+rows-take (suc n) (v ∷ vs) [] ms = refl
+rows-take (suc n) (v ∷ vs) (p ∷ ps) [] = refl
+rows-take (suc n) (v ∷ vs) (p ∷ ps) (m ∷ ms) = ap (λ z. record { argument = optional v p; kept = not (eqb m 0) } ∷ z) (rows-take n vs ps ms)
+
+no-presence : {V : Type 0} (vs : List V) (ms : List ℕ) → rows vs [] ms ≡ []
+no-presence [] ms = refl
+no-presence (v ∷ vs) ms = refl
+
+no-mask : {V : Type 0} (vs : List V) (ps : List ℕ) → rows vs ps [] ≡ []
+no-mask [] ps = refl
+no-mask (v ∷ vs) [] = refl
+no-mask (v ∷ vs) (p ∷ ps) = refl
+
+pub rows-drop : {V : Type 0} (n : ℕ) (vs : List V) (ps ms : List ℕ) → rows (drop n vs) (drop n ps) (drop n ms) ≡ drop n (rows vs ps ms)
+rows-drop zero vs ps ms = refl
+rows-drop (suc n) [] ps ms = refl
+rows-drop (suc n) (v ∷ vs) [] ms = no-presence (drop n vs) (drop (suc n) ms)
+rows-drop (suc n) (v ∷ vs) (p ∷ ps) [] = no-mask (drop n vs) (drop n ps)
+rows-drop (suc n) (v ∷ vs) (p ∷ ps) (m ∷ ms) = rows-drop n vs ps ms
+
+-- a part of the columns shows that part of the rows
+pub rows-part : {V : Type 0} (n i : ℕ) (vs : List V) (ps ms : List ℕ) → rows (take n (drop i vs)) (take n (drop i ps)) (take n (drop i ms)) ≡ take n (drop i (rows vs ps ms))
+rows-part n i vs ps ms = rows-take n (drop i vs) (drop i ps) (drop i ms) ∙ ap (take n) (rows-drop i vs ps ms)
+
+module _ (m : Option (RefT (List ℕ))) (L : ℕ) (fits : length (mask-bytes m L) ≡ L) where
+  pub mask-long : (e : ℕ) → e ≤ L → e ≤ length (mask-bytes m e)
+  mask-long e h = go m fits
+    where
+      go : (k : Option (RefT (List ℕ))) → length (mask-bytes k L) ≡ L → e ≤ length (mask-bytes k e)
+      go None f = omega (arith, length-replicate {A = ℕ} e 1)
+      go (Some b) f = omega arith
+
+pub no-mask-part : (s e n : ℕ) → s ≤ e → e ≤ n → replicate {A = ℕ} (e - s) 1 ≡ take (e - s) (drop s (replicate n 1))
+no-mask-part s e n h l = sym (ap (take (e - s)) (drop-replicate s n 1) ∙ take-replicate (e - s) (n - s) 1 (omega arith))
+
+-- a part of arguments that are aligned is aligned
+pub part-length : {A B : Type 0} (xs : List A) (ys : List B) (s n : ℕ) → length ys ≡ length xs → length (take n (drop s ys)) ≡ length (take n (drop s xs))
+part-length xs ys s n h = simp (length-take, length-drop) (ap (λ k. min n (k - s)) h)
+
+take-clipped : {A : Type 0} (xs : List A) (n : ℕ) → take (min n (length xs)) xs ≡ take n xs
+take-clipped xs n = elim (cases-lt n (length xs)) [
+    | inl h ↦ ap (λ k. take k xs) (omega arith)
+    | inr h ↦ ap (λ k. take k xs) (omega arith) ∙ take-all (length xs) xs (omega arith) ∙ sym (take-all n xs h)
+    ]
+
+drop-clipped : {A : Type 0} (ys : List A) (n m : ℕ) → length ys ≡ m → drop (min n m) ys ≡ drop n ys
+drop-clipped ys n m l = elim (cases-lt n m) [
+    | inl h ↦ ap (λ k. drop k ys) (omega arith)
+    | inr h ↦ drop-all (min n m) ys (omega arith) ∙ sym (drop-all n ys (omega arith))
+    ]
+
+-- from start on and before end, as many as there are
+pub clipped : {A : Type 0} (xs : List A) (start end e s : ℕ) → e ≡ min end (length xs) → s ≡ min start e → take (e - s) (drop s xs) ≡ drop start (take end xs)
+clipped xs start end e s ee es =
+    let whole : s + (e - s) ≡ e = omega arith in
+    sym (drop-take s (e - s) xs) ∙ ap (λ k. drop s (take k xs)) (whole ∙ ee) ∙ ap (drop s) (take-clipped xs end)
+    ∙ ap (λ k. drop k (take end xs)) (es ∙ ap (min start) ee) ∙ drop-clipped (take end xs) start (min end (length xs)) (length-take end xs)
 
 -- every byte of a mask that is not there is 1
 pub ones-at : (n i : ℕ) → i < n → _≡_ {A = ℕ} (getD (replicate n 1) i 0) 0 → ⊥

@@ -2,17 +2,19 @@
 
 ghost use mathlib.Core.Path.{_≡_};
 ghost use mathlib.Core.List.{_++_};
-ghost use Prim.Native.Nat.{_<_, suc};
+ghost use Prim.Native.Nat.{ℕ, suc, _-_, _<_, _≤_};
 ghost use lib.ListN.{length, drop, take};
 ghost use Rattle.std.specs.Iters.{folded};
 ghost use Rattle.std.specs.Vec.{listOf};
-ghost use Rattle.accumulators.specs.Rows.{kept, optional};
+ghost use Rattle.accumulators.specs.Rows.{kept, mask-bytes, optional};
 ghost use Rattle.accumulators.specs.Batches.{rows-of, batch};
 ghost use Rattle.accumulators.specs.Sql.{non-null};
+ghost use Rattle.accumulators.specs.Calls.{Makes};
 
 use crate::arguments::Arguments;
 use crate::gather::Gather;
 use crate::gather::Tally;
+use crate::refusals::Misfit;
 
 /// The argument of a row with this presence byte.
 fn argument<V: Copy>(value: V, presence: u8) -> Option<V>
@@ -21,7 +23,44 @@ fn argument<V: Copy>(value: V, presence: u8) -> Option<V>
     if presence == 0 { None } else { Some(value) }
 }
 
+/// The part of a mask, if there is one.
+fn mask_part<'a>(mask: Option<&'a [u8]>, start: usize, end: usize) -> Option<&'a [u8]>
+    requires { ⌜ start ≤ end ⌝ }
+    requires { ⌜ end ≤ length (mask-bytes mask end) ⌝ }
+    ensures { λ r. ⌜ ((n : ℕ) → end ≤ n → mask-bytes r (end - start) ≡ take (end - start) (drop start (mask-bytes (mask .entry) n))) ⌝ }
+{
+    match mask {
+        None => None,
+        Some(bytes) => Some(&bytes[start..end]),
+    }
+}
+
 impl<'a, V: Copy> Arguments<'a, V> {
+    /// In presence and mask 0 means no, any other byte yes; without a mask every row is kept.
+    pub fn new(values: &'a [V], presence: &'a [u8], mask: Option<&'a [u8]>) -> Result<Arguments<'a, V>, Misfit>
+        ensures { λ r. ⌜ Makes (now (values .entry)) (now (presence .entry)) (mask .entry) r ⌝ }
+    {
+        if presence.len() != values.len() {
+            return Err(Misfit::Presence);
+        }
+        match mask {
+            None => Ok(Arguments { values, presence, mask: None }),
+            Some(bytes) if bytes.len() == values.len() => Ok(Arguments { values, presence, mask: Some(bytes) }),
+            Some(_) => Err(Misfit::Mask),
+        }
+    }
+
+    /// The rows from `start` on and before `end`, as many of them as there are.
+    pub fn part(&self, start: usize, end: usize) -> Arguments<'a, V>
+        ensures { λ r. ⌜ rows-of r ≡ drop start (take end (rows-of (now (self .entry)))) ⌝ }
+    {
+        let end = end.min(self.len());
+        let start = start.min(end);
+        let values = &self.values[start..end];
+        let presence = &self.presence[start..end];
+        Arguments { values, presence, mask: mask_part(self.mask, start, end) }
+    }
+
     /// The number of rows, kept or not.
     pub fn len(&self) -> usize
         ensures rows { λ r. ⌜ r ≡ length (rows-of (now (self .entry))) ⌝ }
