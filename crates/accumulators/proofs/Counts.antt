@@ -9,8 +9,8 @@ use lib.Dec.{ltb}
 use lib.ListN.{length, length-append}
 use Rattle.std.specs.declared.option.Option.{Option}
 use Rattle.accumulators.specs.Sql.{non-null}
-use Rattle.accumulators.specs.Figures.{Lawful, Retracting, Within, rows-held}
-use Rattle.accumulators.specs.Counts.{count, count-retracted, present-held}
+use Rattle.accumulators.specs.Figures.{Lawful, Retracting, Within, rows-held, present-held}
+use Rattle.accumulators.specs.Counts.{count, count-retracted}
 use Rattle.accumulators.proofs.Lists.{present-++, present-few}
 use Rattle.accumulators.proofs.Laws.{lawful-within, retracting-within}
 

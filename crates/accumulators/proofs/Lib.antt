@@ -3,3 +3,4 @@ pub mod Gathers
 pub mod Lists
 pub mod Laws
 pub mod Counts
+pub mod Sums

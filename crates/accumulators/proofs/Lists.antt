@@ -7,7 +7,8 @@ use lib.ListN.{length, drop, length-append}
 use Rattle.std.specs.declared.option.Option.{Option}
 use Rattle.std.specs.declared.option.Option.the-variants.{Some, None}
 use Rattle.std.specs.Iters.{folded}
-use Rattle.accumulators.specs.Sql.{non-null}
+use Rattle.accumulators.specs.Sql.{non-null, null-if-none}
+use Rattle.accumulators.specs.Figures.{missing-at-0}
 
 pub drop-past : {A : Type 0} (xs : List A) (i : ℕ) → length xs ≤ i → drop i xs ≡ []
 drop-past [] zero h = refl
@@ -31,3 +32,7 @@ pub present-few : {V : Type 0} (xs : List (Option V)) → length (non-null xs) �
 present-few [] = omega arith
 present-few (None ∷ xs) = omega (arith, present-few xs)
 present-few (Some v ∷ xs) = omega (arith, present-few xs)
+
+pub null-is : {V A : Type 0} (vs : List V) (a : A) → missing-at-0 (length vs) a ≡ null-if-none vs a
+null-is [] a = refl
+null-is (v ∷ vs) a = refl

@@ -7,16 +7,13 @@ use lib.Dec.{ltb}
 use lib.ListN.{length, getD}
 use Rattle.std.specs.declared.option.Option.{Option}
 use Rattle.std.specs.declared.option.Option.the-variants.{Some}
-use Rattle.accumulators.specs.Sql.{non-null}
-use Rattle.accumulators.specs.Figures.{Figure, rows-held}
-
-abbrev pub present-held : List ℕ → ℕ
-present-held s = getD s 1 0
+use Rattle.accumulators.specs.Sql.{non-null, COUNT}
+use Rattle.accumulators.specs.Figures.{Figure, rows-held, present-held}
 
 abbrev pub count : (V : Type 0) → Figure V ℕ
 count V = record {
   capacity = 4096;
-  answer = λ xs. Some (length (non-null xs));
+  answer = COUNT;
   state = λ xs. length xs ∷ length (non-null xs) ∷ [];
   answered = λ s. Some (present-held s);
   updated = λ s ys. (rows-held s + length ys) ∷ ((present-held s + length (non-null ys)) % 2 ^ 64) ∷ []

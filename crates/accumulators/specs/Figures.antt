@@ -1,14 +1,25 @@
 -- What an accumulator is: a rule over the numbers of its state, and their meaning over a list of optional values. Assumes nothing.
 use mathlib.Core.Path.{_≡_}
 use mathlib.Core.List.{List, [], _∷_, _++_}
-use Prim.Native.Nat.{ℕ, _+_, _≤_, _<_}
+use Prim.Native.Nat.{ℕ, zero, suc, _+_, _≤_, _<_}
 use lib.ListN.{length, getD}
 use Rattle.std.specs.declared.option.Option.{Option}
 use Rattle.std.specs.declared.option.Option.the-variants.{Some, None}
 
--- the first number of every state
+-- The first number of every state is the rows held. Where no row is kept, the second tells how many are not missing, and the
+-- third what is made of those.
 abbrev pub rows-held : List ℕ → ℕ
 rows-held s = getD s 0 0
+
+abbrev pub present-held : List ℕ → ℕ
+present-held s = getD s 1 0
+
+abbrev pub third-held : List ℕ → ℕ
+third-held s = getD s 2 0
+
+abbrev pub missing-at-0 : {A : Type 0} → ℕ → A → Option A
+missing-at-0 zero a = None
+missing-at-0 (suc n) a = Some a
 
 pub record Figure (V Answer : Type 0) : Type 0 where
   pub capacity : ℕ

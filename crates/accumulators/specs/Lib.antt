@@ -4,3 +4,4 @@ pub mod Sql
 pub mod Figures
 pub mod Calls
 pub mod Counts
+pub mod Sums

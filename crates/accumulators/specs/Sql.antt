@@ -1,10 +1,45 @@
 -- Set functions over the values of a group, as ISO/IEC 9075-2:2003 has them. Assumes nothing.
+use mathlib.Core.Path.{_≡_}
+use mathlib.Core.Bool.{Bool, false, cond}
 use mathlib.Core.List.{List, [], _∷_}
+use Prim.Native.Nat.{ℕ}
+use lib.Dec.{eqb}
+use lib.ListN.{length}
+use lib.IntN.{ℤ, pos, _+ℤ_}
+use Rattle.std.specs.shelf.Lists.{All, Has}
 use Rattle.std.specs.declared.option.Option.{Option}
 use Rattle.std.specs.declared.option.Option.the-variants.{Some, None}
 
--- null values are eliminated
+-- Null values are eliminated first.
 abbrev pub non-null : {V : Type 0} → List (Option V) → List V
 non-null [] = []
 non-null (None ∷ xs) = non-null xs
 non-null (Some v ∷ xs) = v ∷ non-null xs
+
+-- COUNT is the number of values.
+abbrev pub COUNT : {V : Type 0} → List (Option V) → Option ℕ
+COUNT xs = Some (length (non-null xs))
+
+-- The other functions are null where no value is left.
+abbrev pub null-if-none : {V A : Type 0} → List V → A → Option A
+null-if-none [] a = None
+null-if-none (v ∷ vs) a = Some a
+
+-- SUM is the sum of the values.
+abbrev pub total : List ℤ → ℤ
+total [] = pos 0
+total (v ∷ vs) = v +ℤ total vs
+
+abbrev pub SUM : List (Option ℤ) → Option ℤ
+SUM xs = null-if-none (non-null xs) (total (non-null xs))
+
+-- MIN is a value that none comes before, MAX one that comes before none.
+abbrev pub Extreme : {V : Type 0} → (V → V → Bool) → List V → Option V → Type 0
+Extreme before vs None = vs ≡ []
+Extreme before vs (Some v) = Has vs v × All (λ w. before w v ≡ false) vs
+
+abbrev pub MIN : {V : Type 0} → (V → V → Bool) → List (Option V) → Option V → Type 0
+MIN before xs = Extreme before (non-null xs)
+
+abbrev pub MAX : {V : Type 0} → (V → V → Bool) → List (Option V) → Option V → Type 0
+MAX before xs = Extreme (λ v w. before w v) (non-null xs)

@@ -3,11 +3,9 @@
 ghost use mathlib.Core.Path.{_≡_};
 ghost use mathlib.Core.List.{[], _∷_};
 ghost use Prim.Native.Nat.{_≤_};
-ghost use lib.ListN.{length};
-ghost use Rattle.std.specs.declared.option.Option.the-variants.{Some};
 ghost use Rattle.accumulators.specs.Figures.{Within};
 ghost use Rattle.accumulators.specs.Counts.{count, count-retracted};
-ghost use Rattle.accumulators.specs.Sql.{non-null};
+ghost use Rattle.accumulators.specs.Sql.{COUNT};
 
 use crate::accumulator::Accumulator;
 use crate::accumulator::Retract;
@@ -40,7 +38,7 @@ pub impl<V: Ordered> Accumulator for Count<V> as CountAccumulator {
 
     ghost stands = { Within (count V) };
 
-    ghost standard = { λ xs r. r ≡ Some (length (non-null xs)) };
+    ghost standard = { λ xs r. r ≡ COUNT xs };
 
     fn new() -> Count<V> {
         Count { rows: 0, present: 0, kind: PhantomData }

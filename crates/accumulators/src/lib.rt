@@ -5,3 +5,4 @@ pub mod arguments;
 pub mod count;
 mod gather;
 pub mod refusals;
+pub mod sum;

@@ -1,0 +1,107 @@
+//! SUM of wholes, to signed 64 bits.
+
+ghost use mathlib.Core.Path.{_≡_};
+ghost use mathlib.Core.List.{[], _∷_};
+ghost use Prim.Native.Nat.{_≤_};
+ghost use lib.IntN.{_+ℤ_};
+ghost use mir.Syntax.{w64};
+ghost use mir.Val.{ofZ};
+ghost use Rattle.std.specs.shelf.Signed.{wrapped};
+ghost use Rattle.accumulators.specs.Figures.{Within};
+ghost use Rattle.accumulators.specs.Sql.{SUM};
+ghost use Rattle.accumulators.specs.Sums.{sum, sum-retracted};
+
+use crate::accumulator::Accumulator;
+use crate::accumulator::Retract;
+use crate::arguments::Arguments;
+use crate::count::CAPACITY;
+use crate::gather::Gather;
+use crate::refusals::Full;
+use crate::refusals::Short;
+use kinds::whole::WholeOrdered;
+
+/// A total modulo 2^64.
+#[derive(Clone, Copy)]
+struct Total {
+    value: i64,
+}
+
+impl Gather<i32> for Total as TotalGather {
+    ghost gathered = { λ t v. record { value = wrapped w64 (t .value +ℤ v) } };
+
+    fn gather(&mut self, value: i32) {
+        self.value = self.value.wrapping_add(i64::from(value));
+    }
+}
+
+#[derive(Drop)]
+pub struct Sum {
+    rows: usize,
+    present: u64,
+    total: i64,
+    ghost few: { rows ≤ 4096 },
+}
+
+pub impl Accumulator for Sum as SumAccumulator {
+    type Value = i32;
+    type Answer = i64;
+
+    ghost numbers = { λ s. s .rows ∷ s .present ∷ ofZ w64 (s .total) ∷ [] };
+
+    ghost figure = { sum };
+
+    ghost stands = { Within sum };
+
+    ghost standard = { λ xs r. r ≡ SUM xs };
+
+    fn new() -> Sum {
+        Sum { rows: 0, present: 0, total: 0 }
+    }
+
+    fn update(&mut self, rows: &Arguments<i32>) -> Result<(), Full> {
+        let mut batch_total = Total { value: 0 };
+        let batch = rows.gather(&mut batch_total);
+        let held = self.rows;
+        if batch.rows > CAPACITY - held {
+            return Err(Full { held, offered: batch.rows });
+        }
+        self.rows = held + batch.rows;
+        self.present = self.present.wrapping_add(batch.present as u64);
+        self.total = self.total.wrapping_add(batch_total.value);
+        Ok(())
+    }
+
+    fn evaluate(&self) -> Option<i64> {
+        if self.present == 0 { None } else { Some(self.total) }
+    }
+
+    fn state_len(&self) -> usize {
+        3
+    }
+
+    fn state(&self, out: &mut [u64]) -> Result<usize, Short> {
+        if out.len() < 3 {
+            return Err(Short { needed: 3 });
+        }
+        out[0] = self.rows as u64;
+        out[1] = self.present;
+        out[2] = self.total.cast_unsigned();
+        Ok(3)
+    }
+}
+
+pub impl Retract for Sum as SumRetract {
+    ghost retracted = { sum-retracted };
+
+    fn retract(&mut self, rows: &Arguments<i32>) {
+        let mut batch_total = Total { value: 0 };
+        let batch = rows.gather(&mut batch_total);
+        if batch.rows > self.rows {
+            *self = Sum::new();
+        } else {
+            self.rows -= batch.rows;
+            self.present = self.present.saturating_sub(batch.present as u64);
+            self.total = self.total.wrapping_sub(batch_total.value);
+        }
+    }
+}
