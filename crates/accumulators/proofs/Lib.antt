@@ -4,3 +4,4 @@ pub mod Lists
 pub mod Laws
 pub mod Counts
 pub mod Sums
+pub mod FloatSums

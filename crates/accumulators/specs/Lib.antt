@@ -5,3 +5,4 @@ pub mod Figures
 pub mod Calls
 pub mod Counts
 pub mod Sums
+pub mod FloatSums

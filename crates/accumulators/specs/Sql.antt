@@ -6,6 +6,8 @@ use Prim.Native.Nat.{ℕ}
 use lib.Dec.{eqb}
 use lib.ListN.{length}
 use lib.IntN.{ℤ, pos, _+ℤ_}
+use lib.Ieee.{Float, fin, binary64, add}
+use Rattle.std.specs.Iters.{folded}
 use Rattle.std.specs.shelf.Lists.{All, Has}
 use Rattle.std.specs.declared.option.Option.{Option}
 use Rattle.std.specs.declared.option.Option.the-variants.{Some, None}
@@ -32,6 +34,13 @@ total (v ∷ vs) = v +ℤ total vs
 
 abbrev pub SUM : List (Option ℤ) → Option ℤ
 SUM xs = null-if-none (non-null xs) (total (non-null xs))
+
+-- SUM of floats rounds each sum, which the standard leaves to the implementation: from 0.0, oldest value first.
+abbrev pub float-total : Float → List Float → Float
+float-total start vs = folded (add binary64) start vs
+
+abbrev pub FLOAT-SUM : List (Option Float) → Option Float
+FLOAT-SUM xs = null-if-none (non-null xs) (float-total (fin false 0 (pos 0)) (non-null xs))
 
 -- MIN is a value that none comes before, MAX one that comes before none.
 abbrev pub Extreme : {V : Type 0} → (V → V → Bool) → List V → Option V → Type 0

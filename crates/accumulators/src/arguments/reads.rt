@@ -87,6 +87,7 @@ impl<'a, V: Copy> Arguments<'a, V> {
     pub(crate) fn gather<G: Gather<V>>(&self, figure: &mut G) -> Tally
         ensures rows { λ r. ⌜ r .rows ≡ length (batch (now (self .entry))) ⌝ }
         ensures present { λ r. ⌜ r .present ≡ length (non-null (batch (now (self .entry)))) ⌝ }
+        ensures fewer { λ r. ⌜ r .present ≤ r .rows ⌝ }
         ensures figure { λ _. ⌜ now (figure .exit) ≡ folded (G·Gather .gathered) (now (figure .entry)) (non-null (batch (now (self .entry)))) ⌝ }
     {
         let mut rows = 0;

@@ -3,7 +3,8 @@ use Prim.Native.Nat.{_+_, _≤_}
 use native.Mathlib.Omega.{arith}
 use lib.ListN.{length}
 use Rattle.std.specs.declared.option.Option.{Option}
-use Rattle.accumulators.specs.Batches.{rows-of}
+use Rattle.accumulators.specs.Batches.{rows-of, batch}
+use Rattle.accumulators.proofs.Lists.{present-few}
 use Rattle.accumulators.proofs.Gathers.{So-far, value-more, missing-more, left-out-more, all-gathered}
 use Rattle.accumulators.proofs.arguments.Arguments.gather.Needs as need
 use Rattle.accumulators.proofs.arguments.Arguments.gather.Needs.{in-Some·in-Some-argument, in-Some·in-rest-argument, in-rest}
@@ -23,4 +24,4 @@ loop-i-again g c =
 pub returns : need.returns
 returns g c =
     let done = all-gathered _ (rows-of (c .args .self .now)) _ _ _ _ _ (omega (arith, c .len-i-end .ensures .rows)) (c .loop-i .inv) in
-    record { rows = done .0; present = done .1; figure = done .2 }
+    record { rows = done .0; present = done .1; fewer = omega (arith, done .0, done .1, present-few (batch (c .args .self .now))); figure = done .2 }

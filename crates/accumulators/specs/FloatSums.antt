@@ -1,0 +1,20 @@
+-- SUM of floats: rows, those not missing, and the key of the total. Assumes nothing.
+use mathlib.Core.List.{List, [], _∷_}
+use mathlib.Core.Bool.{false}
+use Prim.Native.Nat.{ℕ, _+_, _%_, _^_}
+use lib.ListN.{length}
+use lib.IntN.{pos}
+use lib.Ieee.{Float, fin}
+use Rattle.std.specs.declared.option.Option.{Option}
+use Rattle.kinds.specs.Keys.{floatKey, floatAt}
+use Rattle.accumulators.specs.Sql.{non-null, float-total, FLOAT-SUM}
+use Rattle.accumulators.specs.Figures.{Figure, rows-held, present-held, third-held, missing-at-0}
+
+abbrev pub float-sum : Figure Float Float
+float-sum = record {
+  capacity = 4096;
+  answer = FLOAT-SUM;
+  state = λ xs. length xs ∷ length (non-null xs) ∷ floatKey (float-total (fin false 0 (pos 0)) (non-null xs)) ∷ [];
+  answered = λ s. missing-at-0 (present-held s) (floatAt (third-held s));
+  updated = λ s ys. (rows-held s + length ys) ∷ ((present-held s + length (non-null ys)) % 2 ^ 64) ∷ floatKey (float-total (floatAt (third-held s)) (non-null ys)) ∷ []
+}

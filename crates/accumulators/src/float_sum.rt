@@ -1,0 +1,91 @@
+//! SUM of floats, added oldest first and rounded each time, so that every cut into batches gives the same bits.
+
+ghost use mathlib.Core.Path.{_≡_};
+ghost use mathlib.Core.List.{[], _∷_};
+ghost use Prim.Native.Nat.{_≤_};
+ghost use lib.Dec.{T};
+ghost use lib.Ieee as Ieee;
+ghost use lib.Ieee.{binary64, add};
+ghost use Rattle.kinds.specs.Keys.{floatKey};
+ghost use Rattle.accumulators.specs.Figures.{Within};
+ghost use Rattle.accumulators.specs.Sql.{FLOAT-SUM};
+ghost use Rattle.accumulators.specs.FloatSums.{float-sum};
+
+use crate::accumulator::Accumulator;
+use crate::arguments::Arguments;
+use crate::count::CAPACITY;
+use crate::gather::Gather;
+use crate::refusals::Full;
+use crate::refusals::Short;
+use kinds::float::FloatOrdered;
+use kinds::ordered::Ordered;
+
+/// A total that rounds after each value.
+#[derive(Clone, Copy)]
+struct Total {
+    value: f64,
+}
+
+impl Gather<f64> for Total as TotalGather {
+    ghost gathered = { λ t v. record { value = add binary64 (t .value) v } };
+
+    fn gather(&mut self, value: f64) {
+        self.value += value;
+    }
+}
+
+#[derive(Drop)]
+pub struct FloatSum {
+    rows: usize,
+    present: usize,
+    total: f64,
+    ghost few: { rows ≤ 4096 },
+    ghost fewer: { present ≤ rows },
+    ghost held: { T (Ieee.fits binary64 total) },
+}
+
+pub impl Accumulator for FloatSum as FloatSumAccumulator {
+    type Value = f64;
+    type Answer = f64;
+
+    ghost numbers = { λ s. s .rows ∷ s .present ∷ floatKey (s .total) ∷ [] };
+
+    ghost figure = { float-sum };
+
+    ghost stands = { Within float-sum };
+
+    ghost standard = { λ xs r. r ≡ FLOAT-SUM xs };
+
+    fn new() -> FloatSum {
+        FloatSum { rows: 0, present: 0, total: 0.0 }
+    }
+
+    fn update(&mut self, rows: &Arguments<f64>) -> Result<(), Full> {
+        let mut total = Total { value: self.total };
+        let batch = rows.gather(&mut total);
+        let held = self.rows;
+        if batch.rows > CAPACITY - held {
+            return Err(Full { held, offered: batch.rows });
+        }
+        *self = FloatSum { rows: held + batch.rows, present: self.present + batch.present, total: total.value };
+        Ok(())
+    }
+
+    fn evaluate(&self) -> Option<f64> {
+        if self.present == 0 { None } else { Some(self.total) }
+    }
+
+    fn state_len(&self) -> usize {
+        3
+    }
+
+    fn state(&self, out: &mut [u64]) -> Result<usize, Short> {
+        if out.len() < 3 {
+            return Err(Short { needed: 3 });
+        }
+        out[0] = self.rows as u64;
+        out[1] = self.present as u64;
+        out[2] = self.total.key();
+        Ok(3)
+    }
+}
