@@ -5,3 +5,4 @@ pub mod Laws
 pub mod Counts
 pub mod Sums
 pub mod FloatSums
+pub mod Extremes

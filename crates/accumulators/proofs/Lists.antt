@@ -7,8 +7,9 @@ use lib.ListN.{length, drop, length-append}
 use Rattle.std.specs.declared.option.Option.{Option}
 use Rattle.std.specs.declared.option.Option.the-variants.{Some, None}
 use Rattle.std.specs.Iters.{folded}
+use Rattle.std.specs.shelf.Lists.{All}
 use Rattle.accumulators.specs.Sql.{non-null, null-if-none}
-use Rattle.accumulators.specs.Figures.{missing-at-0}
+use Rattle.accumulators.specs.Figures.{Each, missing-at-0}
 
 pub drop-past : {A : Type 0} (xs : List A) (i : ℕ) → length xs ≤ i → drop i xs ≡ []
 drop-past [] zero h = refl
@@ -36,3 +37,8 @@ present-few (Some v ∷ xs) = omega (arith, present-few xs)
 pub null-is : {V A : Type 0} (vs : List V) (a : A) → missing-at-0 (length vs) a ≡ null-if-none vs a
 null-is [] a = refl
 null-is (v ∷ vs) a = refl
+
+pub each-value : {V : Type 0} (P : V → Type 0) (xs : List (Option V)) → Each P xs → All P (non-null xs)
+each-value P [] e = tt
+each-value P (None ∷ xs) e = each-value P xs e
+each-value P (Some v ∷ xs) e = (e .0, each-value P xs (e .1))

@@ -6,3 +6,4 @@ pub mod Calls
 pub mod Counts
 pub mod Sums
 pub mod FloatSums
+pub mod Extremes

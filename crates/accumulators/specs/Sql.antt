@@ -1,6 +1,6 @@
 -- Set functions over the values of a group, as ISO/IEC 9075-2:2003 has them. Assumes nothing.
 use mathlib.Core.Path.{_≡_}
-use mathlib.Core.Bool.{Bool, false, cond}
+use mathlib.Core.Bool.{Bool, true, false}
 use mathlib.Core.List.{List, [], _∷_}
 use Prim.Native.Nat.{ℕ}
 use lib.Dec.{eqb}
@@ -42,13 +42,12 @@ float-total start vs = folded (add binary64) start vs
 abbrev pub FLOAT-SUM : List (Option Float) → Option Float
 FLOAT-SUM xs = null-if-none (non-null xs) (float-total (fin false 0 (pos 0)) (non-null xs))
 
--- MIN is a value that none comes before, MAX one that comes before none.
-abbrev pub Extreme : {V : Type 0} → (V → V → Bool) → List V → Option V → Type 0
-Extreme before vs None = vs ≡ []
-Extreme before vs (Some v) = Has vs v × All (λ w. before w v ≡ false) vs
+-- Whether v comes first, from the least value on or from the greatest.
+abbrev pub ahead : {V : Type 0} → Bool → (V → V → Bool) → V → V → Bool
+ahead false before v w = before v w
+ahead true before v w = before w v
 
-abbrev pub MIN : {V : Type 0} → (V → V → Bool) → List (Option V) → Option V → Type 0
-MIN before xs = Extreme before (non-null xs)
-
-abbrev pub MAX : {V : Type 0} → (V → V → Bool) → List (Option V) → Option V → Type 0
-MAX before xs = Extreme (λ v w. before w v) (non-null xs)
+-- MIN is one of the values, and none comes before it; MAX is one of them too, and comes before none.
+abbrev pub MIN-or-MAX : {V : Type 0} → Bool → (V → V → Bool) → List V → Option V → Type 0
+MIN-or-MAX greatest before vs None = vs ≡ []
+MIN-or-MAX greatest before vs (Some v) = Has vs v × All (λ w. ahead greatest before w v ≡ false) vs

@@ -3,6 +3,7 @@
 pub mod accumulator;
 pub mod arguments;
 pub mod count;
+pub mod extreme;
 pub mod float_sum;
 mod gather;
 pub mod refusals;

@@ -1,0 +1,20 @@
+use mathlib.Core.Path.{_≡_, sym, ap, _∙_}
+use mathlib.Core.List.{map}
+use Prim.Native.Nat.{_+_}
+use native.Mathlib.Omega.{arith}
+use Rattle.accumulators.specs.Batches.{batch}
+use Rattle.accumulators.specs.Sql.{non-null}
+use Rattle.accumulators.specs.Extremes.{best, extreme-state}
+use Rattle.accumulators.proofs.Extremes.{gathered-best, held-best}
+use Rattle.accumulators.proofs.extreme.ExtremeAccumulator.update.Needs as need
+
+pub returns : need.returns
+returns g c =
+    let a = c .args .self .now in
+    let told = c .gather-batch .ensures in
+    let vs = non-null (batch (c .args .rows .now)) in
+    let greatest = g .D·Direction .greatest in
+    let keyed = g .V·Ordered .keyed in
+    let r = ap (λ n. a .rows + n) (told .rows) in
+    let b = ap (λ b. b .key) (told .figure) ∙ gathered-best greatest keyed _ vs ∙ ap (λ z. best greatest z (map keyed vs)) (sym (held-best (a .rows) (a .best))) in
+    (omega (arith, told .rows), λ i. extreme-state (r i) (b i))
