@@ -6,3 +6,5 @@ pub mod Counts
 pub mod Sums
 pub mod FloatSums
 pub mod Extremes
+pub mod Rings
+pub mod SlidingExtremes

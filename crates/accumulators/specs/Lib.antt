@@ -7,3 +7,5 @@ pub mod Counts
 pub mod Sums
 pub mod FloatSums
 pub mod Extremes
+pub mod SlidingExtremes
+pub mod Rings

@@ -7,4 +7,6 @@ pub mod extreme;
 pub mod float_sum;
 mod gather;
 pub mod refusals;
+mod ring;
+pub mod sliding_extreme;
 pub mod sum;

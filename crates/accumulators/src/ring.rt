@@ -1,0 +1,15 @@
+//! A ring of 64 keys: rows come in behind the newest, and go from the oldest on.
+
+ghost use Prim.Native.Nat.{_<_, _≤_};
+
+/// The keys of the rows held, the oldest at the place `first`.
+#[derive(Drop)]
+pub struct Ring {
+    places: [Option<u64>; 64],
+    first: usize,
+    held: usize,
+    ghost inside: { first < 64 },
+    ghost few: { held ≤ 64 },
+}
+
+pub mod rows;
