@@ -8,3 +8,4 @@ pub mod FloatSums
 pub mod Extremes
 pub mod Rings
 pub mod SlidingExtremes
+pub mod Aggregates

@@ -1,15 +1,16 @@
 -- What the calls of an accumulator return and leave. Assumes nothing.
 use mathlib.Core.Path.{_≡_}
-use mathlib.Core.List.{List, _++_}
+use mathlib.Core.List.{List, [], _∷_, _++_}
 use Prim.Native.Nat.{ℕ, _+_, _≤_, _<_}
 use lib.ListN.{length, drop}
+use Rattle.std.specs.Iters.{folded}
 use denote.Ref.{RefT, now}
 use Rattle.std.specs.declared.option.Option.{Option}
 use Rattle.std.specs.declared.result.Result.{Result}
 use Rattle.std.specs.declared.result.Result.the-variants.{Ok, Err}
 use Rattle.accumulators.specs.Rows.{rows, mask-bytes}
 use Rattle.accumulators.specs.Batches.{rows-of}
-use Rattle.accumulators.specs.Figures.{Figure, rows-held}
+use Rattle.accumulators.specs.Figures.{Figure, Each, rows-held}
 use Rattle.accumulators.specs.declared.arguments.Arguments.{Arguments}
 use Rattle.accumulators.specs.declared.refusals.Full.{Full}
 use Rattle.accumulators.specs.declared.refusals.Short.{Short}
@@ -31,3 +32,17 @@ Updates F numbers a a′ ys (Err e) = (F .capacity < rows-held (numbers a) + len
 abbrev pub Writes : List ℕ → List ℕ → List ℕ → Result ℕ Short → Type 0
 Writes ns out out′ (Ok n) = (n ≡ length ns) × (length ns ≤ length out) × (out′ ≡ ns ++ drop (length ns) out)
 Writes ns out out′ (Err e) = (length out < length ns) × (e .needed ≡ length ns) × (out′ ≡ out)
+
+-- a whole group: the answer over it, the standard's for values that their kind can hold; refused where it passes the capacity
+abbrev pub Aggregates : {V Answer : Type 0} → Figure V Answer → (V → Type 0) → (List (Option V) → Option Answer → Type 0) → List (Option V) → Result (Option Answer) Full → Type 0
+Aggregates F fits standard xs (Ok r) = (length xs ≤ F .capacity) × (r ≡ F .answer xs) × (Each fits xs → standard xs r)
+Aggregates F fits standard xs (Err e) = (F .capacity < length xs) × (e .held ≡ 0) × (e .offered ≡ length xs)
+
+abbrev pub joined : {A : Type 0} → List (List A) → List A
+joined [] = []
+joined (b ∷ bs) = b ++ joined bs
+
+-- batches that are taken one after the other come to the answer over all their rows
+abbrev pub Any-cut : {V Answer : Type 0} → Figure V Answer → Type 0
+Any-cut {V} F = (batches : List (List (Option V))) → length (joined batches) ≤ F .capacity
+    → F .answered (folded (F .updated) (F .state []) batches) ≡ F .answer (joined batches)

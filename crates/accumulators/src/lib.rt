@@ -1,6 +1,7 @@
 //! Accumulators: running figures over the optional values of the rows that they were given.
 
 pub mod accumulator;
+pub mod aggregate;
 pub mod arguments;
 pub mod count;
 pub mod extreme;

@@ -3,7 +3,7 @@ use mathlib.Core.Path.{_≡_, refl, sym, ap, _∙_, subst}
 use mathlib.Core.Logic.{_⊎_, inl, inr}
 use mathlib.Core.Bool.{Bool, true, false, not, _&&_, _||_, cond}
 use Prim.Native.Nat.{ℕ, zero, suc, _+_, _-_, _*_, _/_, _%_, _^_, _≤_, _<_}
-use native.Mathlib.Nat.{mul-le-mul-right, le-of-mul-le-mul-right, le-trans, eq-or-lt-of-le, mul-lt-mul-of-pos-right, lt-of-lt-of-le, lt-of-not-le}
+use native.Mathlib.Nat.{zero-mul, mul-le-mul-left, mul-le-mul-right, le-of-mul-le-mul-right, le-trans, eq-or-lt-of-le, mul-lt-mul-of-pos-right, lt-of-lt-of-le, lt-of-not-le}
 use native.Mathlib.Omega.{arith}
 use borrow.Author.Tests.{lt-ltb, le-ltb, ne-eqb}
 use lib.IntN.{ℤ}
@@ -17,7 +17,7 @@ use lib.Ieee.Exact.{HasValue, odd-sign}
 use lib.Ieee.Order.{transfer}
 use Rattle.std.specs.Floats.{negative}
 use Rattle.std.specs.Fused.{steps}
-use Rattle.kinds.specs.Keys.{floatKey, bitsKey, floatBefore}
+use Rattle.kinds.specs.Keys.{floatKey, bitsKey, floatBefore, bothZero}
 
 -- ---- a larger pattern is a larger number
 steps-low : (b : ℕ) → b < 2 ^ 52 → steps b ≡ b
@@ -179,6 +179,42 @@ by-bits (fin s m e) (fin t n d) b c h k p q =
 pub floats-ordered : (x y : Float) → T (fits binary64 x) → T (fits binary64 y) → floatBefore x y ≡ ltb (floatKey x) (floatKey y)
 floats-ordered x y f g = by-bits x y (toBits binary64 x) (toBits binary64 y) (toBits-lt binary64 x f) (toBits-lt binary64 y g) (reads x f) (reads y g)
 
--- of numbers that `==` tells apart, so not of -0 and 0, the keys are in the order of `<`
-pub keys-by-less : (x y : Float) → T (fits binary64 x) → T (fits binary64 y) → isNan x ≡ false → isNan y ≡ false → eq x y ≡ false → lt x y ≡ ltb (floatKey x) (floatKey y)
-keys-by-less x y f g p q r = let o = floats-ordered x y f g in grind arith
+-- ---- numbers that `==` does not tell apart and that differ in sign are both zero
+apart : false ≡ true → ⊥
+apart e = let z : _≡_ {A = ℕ} 0 1 = cc in omega arith
+
+vanishes : (a d : ℕ) → 0 < d → a * d ≡ 0 → a ≡ 0
+vanishes a d h e = let l : a * 1 ≤ a * d = mul-le-mul-left a h in omega arith
+
+opposite-zeros : (x y : Float) → eq x y ≡ true → negative x ≡ true → negative y ≡ false → bothZero x y ≡ true
+unfolding eq negative
+opposite-zeros nan y e p q = absurd (apart e)
+opposite-zeros (inf s) nan e p q = absurd (apart e)
+opposite-zeros (inf true) (inf true) e p q = absurd (apart (sym q))
+opposite-zeros (inf true) (inf false) e p q = absurd (apart e)
+opposite-zeros (inf false) (inf t) e p q = absurd (apart p)
+opposite-zeros (inf s) (fin t n d) e p q = absurd (apart e)
+opposite-zeros (fin s m k) nan e p q = absurd (apart e)
+opposite-zeros (fin s m k) (inf t) e p q = absurd (apart e)
+opposite-zeros (fin false m k) (fin t n d) e p q = absurd (apart p)
+opposite-zeros (fin true m k) (fin true n d) e p q = absurd (apart (sym q))
+opposite-zeros (fin true m k) (fin false n d) e p q =
+    let A = m * up k * down d in
+    let C = n * up d * down k in
+    let a : A ≡ 0 = grind (arith, tells) in
+    let c : C ≡ 0 = grind (arith, tells) in
+    let x = vanishes (m * up k) (down d) (down-pos d) a in
+    let y = vanishes (n * up d) (down k) (down-pos k) c in
+    let v = zero-mul (down k) in
+    let w = zero-mul (down d) in
+    grind (arith, tells)
+
+-- where neither is a NaN and they are not both zero, the keys are in the order of `<`
+pub keys-by-less : (x y : Float) → T (fits binary64 x) → T (fits binary64 y) → isNan x ≡ false → isNan y ≡ false → bothZero x y ≡ false → lt x y ≡ ltb (floatKey x) (floatKey y)
+keys-by-less x y f g p q r = go (eq x y) (negative x) (negative y) refl refl refl (floats-ordered x y f g)
+  where
+    go : (e s t : Bool) → eq x y ≡ e → negative x ≡ s → negative y ≡ t → floatBefore x y ≡ ltb (floatKey x) (floatKey y) → lt x y ≡ ltb (floatKey x) (floatKey y)
+    go false s t u v w o = grind arith
+    go true false t u v w o = grind arith
+    go true true true u v w o = grind arith
+    go true true false u v w o = absurd (apart (sym r ∙ opposite-zeros x y u v w))

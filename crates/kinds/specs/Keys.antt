@@ -1,10 +1,11 @@
 -- The key of a value of each kind, and the value at a key. Assumes nothing.
-use mathlib.Core.Bool.{Bool, cond, not, _&&_, _||_}
+use mathlib.Core.Bool.{Bool, false, cond, not, _&&_, _||_}
 use Prim.Native.Nat.{ℕ, suc, _+_, _-_, _^_, min}
-use lib.Dec.{ltb}
+use mathlib.Core.Path.{_≡_}
+use lib.Dec.{T, ltb}
 use lib.IntN.{ℤ, pos, negsuc, subℕ}
-use lib.Ieee.{Float, binary64, toBits, ofBits, isNan, lt, eq}
-use Rattle.std.specs.Floats.{negative}
+use lib.Ieee.{Float, binary64, toBits, ofBits, fits, isNan, lt, eq}
+use Rattle.std.specs.Floats.{negative, zero}
 
 -- A whole has value + 2^31; a key past the greatest counts as the greatest.
 abbrev pub wholeKey : ℤ → ℕ
@@ -37,3 +38,10 @@ floatAt k = ofBits binary64 (keyBits k)
 -- The order of floats: IEEE's `<`, with -0.0 before 0.0; behind all the numbers comes the one not-a-number.
 abbrev pub floatBefore : Float → Float → Bool
 floatBefore x y = not (isNan x) && (isNan y || (lt x y || (eq x y && (negative x && not (negative y)))))
+
+abbrev pub bothZero : Float → Float → Bool
+bothZero x y = eq x zero && eq y zero
+
+-- Where neither is a not-a-number and they are not both zero, x and every other float order as `<` says.
+abbrev pub As-less : Float → Type 0
+As-less x = (y : Float) → T (fits binary64 y) → isNan x ≡ false → isNan y ≡ false → bothZero x y ≡ false → lt x y ≡ ltb (floatKey x) (floatKey y)

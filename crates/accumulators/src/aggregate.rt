@@ -1,0 +1,28 @@
+//! Figures over a whole group of rows, for every accumulator.
+
+ghost use mathlib.Core.Path.{_≡_};
+ghost use mathlib.Core.List.{[]};
+ghost use Rattle.accumulators.specs.Batches.{batch};
+ghost use Rattle.accumulators.specs.Calls.{Aggregates, Any-cut};
+
+use crate::accumulator::Accumulator;
+use crate::arguments::Arguments;
+use crate::refusals::Full;
+
+/// The answer over no rows, which an empty frame has.
+pub fn default_value<A: Accumulator>() -> Option<A::Answer>
+    ensures { λ r. ⌜ r ≡ A·Accumulator .figure .answer [] ⌝ }
+{
+    A::new().evaluate()
+}
+
+/// The answer over the kept rows, as the SQL standard has it. However the same rows are cut into
+/// batches, an accumulator that takes one batch after the other comes to this answer.
+pub fn aggregate<A: Accumulator>(rows: &Arguments<A::Value>) -> Result<Option<A::Answer>, Full>
+    ensures value { λ r. ⌜ Aggregates (A·Accumulator .figure) (Value·Ordered .fits) (A·Accumulator .standard) (batch (now (rows .entry))) r ⌝ }
+    ensures cut { λ _. ⌜ Any-cut (A·Accumulator .figure) ⌝ }
+{
+    let mut accumulator = A::new();
+    accumulator.update(rows)?;
+    Ok(accumulator.evaluate())
+}
