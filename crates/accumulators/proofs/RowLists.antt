@@ -4,6 +4,7 @@ use mathlib.Core.Bool.{Bool, true, false, cond, not}
 use mathlib.Core.List.{List, [], _∷_, _++_}
 use Prim.Native.Nat.{ℕ, zero, suc, _+_, _-_, _≤_, _<_, min}
 use native.Mathlib.Omega.{arith}
+use native.Mathlib.Nat.{le-trans}
 use mathlib.Core.Logic.{inl, inr}
 use lib.Dec.{eqb}
 use Rattle.std.proofs.shelf.Tests.{cases-lt}
@@ -23,6 +24,16 @@ rows-length [] ps ms p m = refl
 rows-length (v ∷ vs) [] ms p m = absurd (omega arith)
 rows-length (v ∷ vs) (q ∷ ps) [] p m = absurd (omega arith)
 rows-length (v ∷ vs) (q ∷ ps) (n ∷ ms) p m = ap suc (rows-length vs ps ms (omega arith) (omega arith))
+
+-- there are no more rows than the shortest column has
+pub rows-all : {V : Type 0} (vs : List V) (ps ms : List ℕ) (n : ℕ) → min (min (length vs) (length ps)) (length ms) ≤ n → take n (rows vs ps ms) ≡ rows vs ps ms
+rows-all vs ps ms n h = take-all n (rows vs ps ms) (le-trans (few vs ps ms) h)
+  where
+    few : {V : Type 0} (vs : List V) (ps ms : List ℕ) → length (rows vs ps ms) ≤ min (min (length vs) (length ps)) (length ms)
+    few [] ps ms = omega arith
+    few (v ∷ vs) [] ms = omega arith
+    few (v ∷ vs) (p ∷ ps) [] = omega arith
+    few (v ∷ vs) (p ∷ ps) (m ∷ ms) = omega (arith, few vs ps ms)
 
 -- the row at i, and those behind it
 pub rows-at : {V : Type 0} (vs : List V) (ps ms : List ℕ) (i : ℕ) (v : V) → length ps ≡ length vs → length ms ≡ length vs → i < length vs
@@ -60,13 +71,9 @@ rows-drop (suc n) (v ∷ vs) (p ∷ ps) (m ∷ ms) = rows-drop n vs ps ms
 pub rows-part : {V : Type 0} (n i : ℕ) (vs : List V) (ps ms : List ℕ) → rows (take n (drop i vs)) (take n (drop i ps)) (take n (drop i ms)) ≡ take n (drop i (rows vs ps ms))
 rows-part n i vs ps ms = rows-take n (drop i vs) (drop i ps) (drop i ms) ∙ ap (take n) (rows-drop i vs ps ms)
 
-module _ (m : Option (RefT (List ℕ))) (L : ℕ) (fits : length (mask-bytes m L) ≡ L) where
-  pub mask-long : (e : ℕ) → e ≤ L → e ≤ length (mask-bytes m e)
-  mask-long e h = go m fits
-    where
-      go : (k : Option (RefT (List ℕ))) → length (mask-bytes k L) ≡ L → e ≤ length (mask-bytes k e)
-      go None f = omega (arith, length-replicate {A = ℕ} e 1)
-      go (Some b) f = omega arith
+pub mask-long : (m : Option (RefT (List ℕ))) (L e : ℕ) → e ≤ length (mask-bytes m L) → e ≤ length (mask-bytes m e)
+mask-long None L e h = omega (arith, length-replicate {A = ℕ} e 1)
+mask-long (Some b) L e h = h
 
 pub no-mask-part : (s e n : ℕ) → s ≤ e → e ≤ n → replicate {A = ℕ} (e - s) 1 ≡ take (e - s) (drop s (replicate n 1))
 no-mask-part s e n h l = sym (ap (take (e - s)) (drop-replicate s n 1) ∙ take-replicate (e - s) (n - s) 1 (omega arith))

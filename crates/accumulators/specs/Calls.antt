@@ -4,24 +4,20 @@ use mathlib.Core.List.{List, [], _∷_, _++_}
 use Prim.Native.Nat.{ℕ, _+_, _≤_, _<_}
 use lib.ListN.{length, drop}
 use Rattle.std.specs.Iters.{folded}
-use denote.Ref.{RefT, now}
 use Rattle.std.specs.declared.option.Option.{Option}
 use Rattle.std.specs.declared.result.Result.{Result}
 use Rattle.std.specs.declared.result.Result.the-variants.{Ok, Err}
-use Rattle.accumulators.specs.Rows.{rows, mask-bytes}
-use Rattle.accumulators.specs.Batches.{rows-of}
 use Rattle.accumulators.specs.Figures.{Figure, Each, rows-held}
-use Rattle.accumulators.specs.declared.arguments.Arguments.{Arguments}
 use Rattle.accumulators.specs.declared.refusals.Full.{Full}
 use Rattle.accumulators.specs.declared.refusals.Short.{Short}
 use Rattle.accumulators.specs.declared.refusals.Misfit.{Misfit}
 use Rattle.accumulators.specs.declared.refusals.Misfit.the-variants.{Presence, Mask}
 
--- columns of one length give their rows; else the first that departs is named
-abbrev pub Makes : {V : Type 0} → List V → List ℕ → Option (RefT (List ℕ)) → Result (Arguments V) Misfit → Type 0
-Makes vs ps m (Ok a) = (length ps ≡ length vs) × (length (mask-bytes m (length vs)) ≡ length vs) × (rows-of a ≡ rows vs ps (mask-bytes m (length vs)))
-Makes vs ps m (Err Presence) = length ps ≡ length vs → ⊥
-Makes vs ps m (Err Mask) = (length ps ≡ length vs) × (length (mask-bytes m (length vs)) ≡ length vs → ⊥)
+-- the arguments, their presence and the mask have one length; else the first that departs is named
+abbrev pub Measures : ℕ → ℕ → ℕ → Result (Unit {0}) Misfit → Type 0
+Measures arguments presence mask (Ok u) = (presence ≡ arguments) × (mask ≡ arguments)
+Measures arguments presence mask (Err Presence) = presence ≡ arguments → ⊥
+Measures arguments presence mask (Err Mask) = (presence ≡ arguments) × (mask ≡ arguments → ⊥)
 
 -- a batch is taken, or refused with the rows held and offered, exactly where they would pass the capacity
 abbrev pub Updates : {V Answer A : Type 0} → Figure V Answer → (A → List ℕ) → A → A → List (Option V) → Result (Unit {0}) Full → Type 0

@@ -1,4 +1,7 @@
-//! What an accumulator refuses, with its numbers.
+//! What accumulators and their arguments refuse, with the numbers.
+
+use std::error::Error;
+use std::fmt;
 
 /// An update that would pass the capacity: so many rows are held, and so many were offered.
 #[derive(Clone, Copy, PartialEq, Eq, Debug)]
@@ -19,3 +22,33 @@ pub enum Misfit {
     Presence,
     Mask,
 }
+
+pub impl fmt::Display for Full as FullDisplay {
+    fn fmt<W: fmt::Write>(&self, f: &mut fmt::Formatter<W>) -> fmt::Result {
+        let held = self.held;
+        let offered = self.offered;
+        write!(f, "{held} rows held, {offered} offered")
+    }
+}
+
+pub impl fmt::Display for Short as ShortDisplay {
+    fn fmt<W: fmt::Write>(&self, f: &mut fmt::Formatter<W>) -> fmt::Result {
+        let needed = self.needed;
+        write!(f, "{needed} numbers needed")
+    }
+}
+
+pub impl fmt::Display for Misfit as MisfitDisplay {
+    fn fmt<W: fmt::Write>(&self, f: &mut fmt::Formatter<W>) -> fmt::Result {
+        match self {
+            Misfit::Presence => write!(f, "presence differs in length from the arguments"),
+            Misfit::Mask => write!(f, "the mask differs in length from the arguments"),
+        }
+    }
+}
+
+pub impl Error for Full as FullError {}
+
+pub impl Error for Short as ShortError {}
+
+pub impl Error for Misfit as MisfitError {}

@@ -6,10 +6,10 @@ ghost use Prim.Native.Nat.{ℕ, suc, _-_, _<_, _≤_};
 ghost use lib.ListN.{length, drop, take};
 ghost use Rattle.std.specs.Iters.{folded};
 ghost use Rattle.std.specs.Vec.{listOf};
-ghost use Rattle.accumulators.specs.Rows.{kept, mask-bytes, optional};
+ghost use Rattle.accumulators.specs.Rows.{kept, mask-bytes, optional, rows};
 ghost use Rattle.accumulators.specs.Batches.{rows-of, batch};
 ghost use Rattle.accumulators.specs.Sql.{non-null};
-ghost use Rattle.accumulators.specs.Calls.{Makes};
+ghost use Rattle.accumulators.specs.Calls.{Measures};
 
 use crate::arguments::Arguments;
 use crate::gather::Gather;
@@ -21,6 +21,29 @@ fn argument<V: Copy>(value: V, presence: u8) -> Option<V>
     ensures { λ r. ⌜ r ≡ optional value presence ⌝ }
 {
     if presence == 0 { None } else { Some(value) }
+}
+
+/// Whether the columns have one length; else the first that departs from the arguments.
+pub fn check_lengths<V: Copy>(values: &[V], presence: &[u8], mask: Option<&[u8]>) -> Result<(), Misfit>
+    ensures { λ r. ⌜ Measures (length (now (values .entry))) (length (now (presence .entry))) (length (mask-bytes (mask .entry) (length (now (values .entry))))) r ⌝ }
+{
+    if presence.len() != values.len() {
+        return Err(Misfit::Presence);
+    }
+    if mask_len(mask, values.len()) != values.len() {
+        return Err(Misfit::Mask);
+    }
+    Ok(())
+}
+
+/// The length of a mask, and of `rows` rows where there is none.
+fn mask_len(mask: Option<&[u8]>, rows: usize) -> usize
+    ensures { λ r. ⌜ r ≡ length (mask-bytes (mask .entry) rows) ⌝ }
+{
+    match mask {
+        None => rows,
+        Some(bytes) => bytes.len(),
+    }
 }
 
 /// The part of a mask, if there is one.
@@ -36,18 +59,13 @@ fn mask_part<'a>(mask: Option<&'a [u8]>, start: usize, end: usize) -> Option<&'a
 }
 
 impl<'a, V: Copy> Arguments<'a, V> {
-    /// In presence and mask 0 means no, any other byte yes; without a mask every row is kept.
-    pub fn new(values: &'a [V], presence: &'a [u8], mask: Option<&'a [u8]>) -> Result<Arguments<'a, V>, Misfit>
-        ensures { λ r. ⌜ Makes (now (values .entry)) (now (presence .entry)) (mask .entry) r ⌝ }
+    /// The rows that all columns have. In presence and mask 0 means no, any other byte yes; without a
+    /// mask every row is kept.
+    pub fn new(values: &'a [V], presence: &'a [u8], mask: Option<&'a [u8]>) -> Arguments<'a, V>
+        ensures { λ r. ⌜ rows-of r ≡ rows (now (values .entry)) (now (presence .entry)) (mask-bytes (mask .entry) (length (now (values .entry)))) ⌝ }
     {
-        if presence.len() != values.len() {
-            return Err(Misfit::Presence);
-        }
-        match mask {
-            None => Ok(Arguments { values, presence, mask: None }),
-            Some(bytes) if bytes.len() == values.len() => Ok(Arguments { values, presence, mask: Some(bytes) }),
-            Some(_) => Err(Misfit::Mask),
-        }
+        let len = values.len().min(presence.len()).min(mask_len(mask, values.len()));
+        Arguments { values: &values[0..len], presence: &presence[0..len], mask: mask_part(mask, 0, len) }
     }
 
     /// The rows from `start` on and before `end`, as many of them as there are.

@@ -11,7 +11,7 @@ use Rattle.accumulators.proofs.arguments.Arguments.part.Needs as need
 pub mask-part-requires : need.mask-part-requires
 mask-part-requires g c κs =
     let a = c .args .self .now in
-    (omega arith, mask-long (a .mask) (length (a .values .now)) (a .masked) (c .min-end .result) (omega arith))
+    (omega arith, mask-long (a .mask) (length (a .values .now)) (c .min-end .result) (omega (arith, a .masked)))
 
 pub ghost-result : need.ghost-result
 ghost-result g c =
