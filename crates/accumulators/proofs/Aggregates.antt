@@ -20,7 +20,7 @@ module _ {V Answer : Type 0} (F : Figure V Answer) (Stands : List ℕ → List (
       let l = length-append b (joined bs) in
       let m = length-append xs b in
       subst (Stands (folded (F .updated) (F .updated s b) bs)) (append-assoc xs b (joined bs))
-          (taken (F .updated s b) (xs ++ b) bs (laws .grows s xs b st (omega arith)) (omega arith))
+      (taken (F .updated s b) (xs ++ b) bs (laws .grows s xs b st (omega arith)) (omega arith))
 
   pub any-cut : Any-cut F
   any-cut bs h = laws .answers (folded (F .updated) (F .state []) bs) (joined bs) (taken (F .state []) [] bs (laws .starts) (omega arith))
@@ -32,9 +32,10 @@ module _ {V Answer : Type 0} (F : Figure V Answer) (Stands : List ℕ → List (
 
     pub whole : rows-held s + length xs ≤ F .capacity → (length xs ≤ F .capacity) × (F .answered (F .updated s xs) ≡ F .answer xs)
     whole h =
-        let e = empty in
-        ( omega arith
-        , ap (λ z. F .answered (F .updated z xs)) new ∙ laws .answers (F .updated (F .state []) xs) xs (laws .grows (F .state []) [] xs (laws .starts) (omega arith)) )
+        let e = empty in (
+          omega arith,
+          ap (λ z. F .answered (F .updated z xs)) new ∙ laws .answers (F .updated (F .state []) xs) xs (laws .grows (F .state []) [] xs (laws .starts) (omega arith)),
+        )
 
     pub too-many : (e : Full) → F .capacity < rows-held s + length xs → e .held ≡ rows-held s → e .offered ≡ length xs → (F .capacity < length xs) × (e .held ≡ 0) × (e .offered ≡ length xs)
     too-many e h p q = let z = empty in (omega arith, p ∙ z, q)

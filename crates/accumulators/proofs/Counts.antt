@@ -9,7 +9,7 @@ use lib.Dec.{ltb}
 use lib.ListN.{length, length-append}
 use Rattle.std.specs.declared.option.Option.{Option}
 use Rattle.accumulators.specs.Sql.{non-null}
-use Rattle.accumulators.specs.Figures.{Lawful, Retracting, Within, rows-held, present-held}
+use Rattle.accumulators.specs.Figures.{most-rows, Lawful, Retracting, Within, rows-held, present-held}
 use Rattle.accumulators.specs.Counts.{count, count-retracted}
 use Rattle.accumulators.proofs.Lists.{present-++, present-few}
 use Rattle.accumulators.proofs.Laws.{lawful-within, retracting-within}
@@ -18,7 +18,7 @@ use Rattle.accumulators.proofs.Laws.{lawful-within, retracting-within}
 pub rows-more : {V : Type 0} (xs ys : List (Option V)) → length xs + length ys ≡ length (xs ++ ys)
 rows-more xs ys = sym (length-append xs ys)
 
-pub present-more : {V : Type 0} (xs ys : List (Option V)) → length xs + length ys ≤ 4096 → (length (non-null xs) + length (non-null ys)) % 2 ^ 64 ≡ length (non-null (xs ++ ys))
+pub present-more : {V : Type 0} (xs ys : List (Option V)) → length xs + length ys ≤ most-rows → (length (non-null xs) + length (non-null ys)) % 2 ^ 64 ≡ length (non-null (xs ++ ys))
 present-more xs ys h = omega (arith, present-++ xs ys, present-few xs, present-few ys)
 
 -- and with their oldest part dropped

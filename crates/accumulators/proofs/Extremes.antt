@@ -42,9 +42,9 @@ module _ {V : Type 0} (greatest : Bool) (keyed : V → ℕ) (valued : ℕ → V)
   pub extreme-lawful : Lawful (extreme greatest keyed valued) (Within (extreme greatest keyed valued))
   extreme-lawful = lawful-within (extreme greatest keyed valued)
       (λ xs ys h.
-        ap (λ b. extreme-state (length xs + length ys) (best greatest b (map keyed (non-null ys)))) (held-best (length xs) (best greatest None (map keyed (non-null xs))))
-        ∙ ap (extreme-state (length xs + length ys)) (best-more xs ys)
-        ∙ ap (λ n. extreme-state n (best greatest None (map keyed (non-null (xs ++ ys))))) (rows-more xs ys))
+      ap (λ b. extreme-state (length xs + length ys) (best greatest b (map keyed (non-null ys)))) (held-best (length xs) (best greatest None (map keyed (non-null xs))))
+      ∙ ap (extreme-state (length xs + length ys)) (best-more xs ys)
+      ∙ ap (λ n. extreme-state n (best greatest None (map keyed (non-null (xs ++ ys))))) (rows-more xs ys))
       (λ xs. refl)
       (λ xs h. ap (mapped valued) (held-best (length xs) (best greatest None (map keyed (non-null xs)))))
 
@@ -72,16 +72,18 @@ module _ {V : Type 0} (greatest : Bool) (keyed : V → ℕ) where
 
   -- x is put to the test against v, which was best so far
   step : (v x : V) (xs : List V) (b : Bool) → ahead greatest ltb (keyed x) (keyed v) ≡ b → Won x xs → Won v xs → Won v (x ∷ xs)
-  step v x xs true e r r′ =
-      ( r .0
-      , ap (λ b. best greatest (Some (cond b (keyed x) (keyed v))) (map keyed xs)) e ∙ r .1
-      , has-append-right (v ∷ []) (x ∷ xs) (r .0) (r .2)
-      , (overtaken greatest (keyed v) (keyed x) (keyed (r .0)) e (r .3 .0), r .3) )
-  step v x xs false e r′ r =
-      ( r .0
-      , ap (λ b. best greatest (Some (cond b (keyed x) (keyed v))) (map keyed xs)) e ∙ r .1
-      , skip v x (r .0) xs (r .2)
-      , (r .3 .0, (behind greatest (keyed x) (keyed v) (keyed (r .0)) e (r .3 .0), r .3 .1)) )
+  step v x xs true e r r′ = (
+    r .0,
+    ap (λ b. best greatest (Some (cond b (keyed x) (keyed v))) (map keyed xs)) e ∙ r .1,
+    has-append-right (v ∷ []) (x ∷ xs) (r .0) (r .2),
+    (overtaken greatest (keyed v) (keyed x) (keyed (r .0)) e (r .3 .0), r .3),
+  )
+  step v x xs false e r′ r = (
+    r .0,
+    ap (λ b. best greatest (Some (cond b (keyed x) (keyed v))) (map keyed xs)) e ∙ r .1,
+    skip v x (r .0) xs (r .2),
+    (r .3 .0, (behind greatest (keyed x) (keyed v) (keyed (r .0)) e (r .3 .0), r .3 .1)),
+  )
 
   won : (v : V) (vs : List V) → Won v vs
   won v [] = (v, refl, (0, omega arith, λ d. refl), (level greatest (keyed v), tt))
@@ -103,7 +105,7 @@ module _ {V : Type 0} (greatest : Bool) (fits : V → Type 0) (before : V → V 
       let r = won greatest keyed v vs in
       let f = all-has fits (v ∷ vs) (r .0) h (r .2) in
       subst (λ (o : Option V). MIN-or-MAX greatest before (v ∷ vs) o) (sym (ap (mapped valued) (r .1) ∙ ap Some (restored (r .0) f)))
-          (r .2, none-ahead (r .0) (v ∷ vs) f h (r .3))
+      (r .2, none-ahead (r .0) (v ∷ vs) f h (r .3))
 
   pub extreme-standard : (xs : List (Option V)) → Each fits xs → MIN-or-MAX greatest before (non-null xs) (mapped valued (best greatest None (map keyed (non-null xs))))
   extreme-standard xs e = standard (non-null xs) (each-value fits xs e)

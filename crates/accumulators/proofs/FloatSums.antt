@@ -45,9 +45,9 @@ back vs = float-back (float-total (fin false 0 (pos 0)) vs) (total-fits (fin fal
 
 total-more : (xs ys : List (Option Float)) → floatKey (float-total (floatAt (floatKey (float-total (fin false 0 (pos 0)) (non-null xs)))) (non-null ys)) ≡ floatKey (float-total (fin false 0 (pos 0)) (non-null (xs ++ ys)))
 total-more xs ys = ap floatKey
-    ( ap (λ z. float-total z (non-null ys)) (back (non-null xs))
+    (ap (λ z. float-total z (non-null ys)) (back (non-null xs))
     ∙ sym (folded-++ (add binary64) (fin false 0 (pos 0)) (non-null xs) (non-null ys))
-    ∙ ap (float-total (fin false 0 (pos 0))) (sym (non-null-++ xs ys)) )
+    ∙ ap (float-total (fin false 0 (pos 0))) (sym (non-null-++ xs ys)))
 
 pub float-sum-lawful : Lawful float-sum (Within float-sum)
 float-sum-lawful = lawful-within float-sum

@@ -25,13 +25,14 @@ module _ {V S : Type 0} (f : S → V → S) (R : List (Row V)) (start : S) where
   module _ (i r p r′ p′ : ℕ) (s s′ : S) (h : So-far i r p s) where
     next : (k : List (Option V)) → kept (drop i R) ≡ k ++ kept (drop (suc i) R) → r′ ≡ r + length k → p′ ≡ p + length (non-null k)
         → s′ ≡ folded f s (non-null k) → length k ≤ 1 → length (non-null k) ≤ 1 → So-far (i + 1) r′ p′ s′
-    next k e er ep es few fewer = rw (add-one i)
-        ( omega (arith, h .0, ap length e, length-append k (kept (drop (suc i) R)))
-        , omega (arith, h .1, ap (λ z. length (non-null z)) e, ap length (non-null-++ k (kept (drop (suc i) R))), length-append (non-null k) (non-null (kept (drop (suc i) R))))
-        , ap (λ z. folded f z (non-null (kept (drop (suc i) R)))) es ∙ sym (folded-++ f s (non-null k) (non-null (kept (drop (suc i) R))))
-          ∙ ap (folded f s) (sym (non-null-++ k (kept (drop (suc i) R)))) ∙ ap (λ z. folded f s (non-null z)) (sym e) ∙ h .2
-        , omega (arith, h .3)
-        , omega (arith, h .4) )
+    next k e er ep es few fewer = rw (add-one i) (
+      omega (arith, h .0, ap length e, length-append k (kept (drop (suc i) R))),
+      omega (arith, h .1, ap (λ z. length (non-null z)) e, ap length (non-null-++ k (kept (drop (suc i) R))), length-append (non-null k) (non-null (kept (drop (suc i) R)))),
+      ap (λ z. folded f z (non-null (kept (drop (suc i) R)))) es ∙ sym (folded-++ f s (non-null k) (non-null (kept (drop (suc i) R))))
+          ∙ ap (folded f s) (sym (non-null-++ k (kept (drop (suc i) R)))) ∙ ap (λ z. folded f s (non-null z)) (sym e) ∙ h .2,
+      omega (arith, h .3),
+      omega (arith, h .4),
+    )
 
     pub value-more : (x : Option V) (v : V) → kept (drop i R) ≡ x ∷ kept (drop (suc i) R) → x ≡ Some v → r′ ≡ r + 1 → p′ ≡ p + 1 → s′ ≡ f s v → So-far (i + 1) r′ p′ s′
     value-more x v e is er ep es = next (Some v ∷ []) (e ∙ ap (λ z. z ∷ kept (drop (suc i) R)) is) er ep es (omega arith) (omega arith)
@@ -45,7 +46,8 @@ module _ {V S : Type 0} (f : S → V → S) (R : List (Row V)) (start : S) where
   pub all-gathered : (i r p : ℕ) (s : S) → length R ≤ i → So-far i r p s
       → (r ≡ length (kept R)) × (p ≡ length (non-null (kept R))) × (s ≡ folded f start (non-null (kept R)))
   all-gathered i r p s l h =
-      let e = drop-past R i l in
-      ( omega (arith, h .0, ap (λ k. length (kept k)) e)
-      , omega (arith, h .1, ap (λ k. length (non-null (kept k))) e)
-      , sym (ap (λ k. folded f s (non-null (kept k))) e) ∙ h .2 )
+      let e = drop-past R i l in (
+        omega (arith, h .0, ap (λ k. length (kept k)) e),
+        omega (arith, h .1, ap (λ k. length (non-null (kept k))) e),
+        sym (ap (λ k. folded f s (non-null (kept k))) e) ∙ h .2,
+      )

@@ -19,7 +19,7 @@ module _ {V Answer : Type 0} (F : Figure V Answer) where
     holds = λ s xs st. ap rows-held (st .0) ∙ hold xs;
     within = λ s xs st. st .1;
     tells = λ s xs st. st .0;
-    answers = λ s xs st. ap (F .answered) (st .0) ∙ answer xs (st .1)
+    answers = λ s xs st. ap (F .answered) (st .0) ∙ answer xs (st .1);
   }
 
   pub retracting-within : (retracted : List ℕ → List (Option V) → List ℕ)
@@ -28,5 +28,5 @@ module _ {V Answer : Type 0} (F : Figure V Answer) where
       → Retracting F (Within F) retracted
   retracting-within retracted shrink empty = record {
     shrinks = λ s xs ys st. (ap (λ z. retracted z xs) (st .0) ∙ shrink xs ys (omega (arith, length-append xs ys, st .1)), omega (arith, length-append xs ys, st .1));
-    empties = empty
+    empties = empty;
   }

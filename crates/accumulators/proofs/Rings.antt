@@ -42,6 +42,7 @@ ring-drop r p (suc n) (suc k) = ring-drop r (suc p) n k ∙ (λ i. ring-rows r (
   where
     on : suc p + k ≡ p + suc k
     on = omega arith
+
     left : n - k ≡ suc n - suc k
     left = omega arith
 

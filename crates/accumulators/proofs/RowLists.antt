@@ -84,15 +84,15 @@ part-length xs ys s n h = simp (length-take, length-drop) (ap (λ k. min n (k - 
 
 take-clipped : {A : Type 0} (xs : List A) (n : ℕ) → take (min n (length xs)) xs ≡ take n xs
 take-clipped xs n = elim (cases-lt n (length xs)) [
-    | inl h ↦ ap (λ k. take k xs) (omega arith)
-    | inr h ↦ ap (λ k. take k xs) (omega arith) ∙ take-all (length xs) xs (omega arith) ∙ sym (take-all n xs h)
-    ]
+  | inl h ↦ ap (λ k. take k xs) (omega arith)
+  | inr h ↦ ap (λ k. take k xs) (omega arith) ∙ take-all (length xs) xs (omega arith) ∙ sym (take-all n xs h)
+]
 
 drop-clipped : {A : Type 0} (ys : List A) (n m : ℕ) → length ys ≡ m → drop (min n m) ys ≡ drop n ys
 drop-clipped ys n m l = elim (cases-lt n m) [
-    | inl h ↦ ap (λ k. drop k ys) (omega arith)
-    | inr h ↦ drop-all (min n m) ys (omega arith) ∙ sym (drop-all n ys (omega arith))
-    ]
+  | inl h ↦ ap (λ k. drop k ys) (omega arith)
+  | inr h ↦ drop-all (min n m) ys (omega arith) ∙ sym (drop-all n ys (omega arith))
+]
 
 -- from start on and before end, as many as there are
 pub clipped : {A : Type 0} (xs : List A) (start end e s : ℕ) → e ≡ min end (length xs) → s ≡ min start e → take (e - s) (drop s xs) ≡ drop start (take end xs)

@@ -16,7 +16,7 @@ use Rattle.std.proofs.shelf.Tests.{cases-lt}
 use Rattle.std.proofs.shelf.Lists.{map-append, length-map, length-drop, length-take, drop-all, take-all}
 use Rattle.accumulators.specs.Rows.{Row, kept}
 use Rattle.accumulators.specs.Sql.{non-null}
-use Rattle.accumulators.specs.Figures.{Lawful, Retracting, Within, rows-held}
+use Rattle.accumulators.specs.Figures.{most-kept, Lawful, Retracting, Within, rows-held}
 use Rattle.accumulators.specs.Extremes.{best, one-or-0, key-or-0}
 use Rattle.accumulators.specs.SlidingExtremes.{sliding-extreme, oldest-dropped, pairs, put-pair, keys-in}
 use Rattle.accumulators.proofs.Laws.{lawful-within, retracting-within}
@@ -62,9 +62,9 @@ module _ {V : Type 0} (greatest : Bool) (keyed : V → ℕ) (valued : ℕ → V)
   unfolding keys
   sliding-lawful = lawful-within (sliding-extreme greatest keyed valued)
       (λ xs ys h.
-        let r = rows-more xs ys in
-        let p = sym (ap pairs (map-append (mapped keyed) xs ys) ∙ pairs-++ (keys xs) (keys ys)) in
-        λ i. r i ∷ p i)
+      let r = rows-more xs ys in
+      let p = sym (ap pairs (map-append (mapped keyed) xs ys) ∙ pairs-++ (keys xs) (keys ys)) in
+      λ i. r i ∷ p i)
       (λ xs. refl)
       (λ xs h. ap (λ ks. mapped valued (best greatest None ks)) (keys-back (keys xs) ∙ non-null-map keyed xs))
 
@@ -86,31 +86,33 @@ module _ {V : Type 0} (greatest : Bool) (keyed : V → ℕ) (valued : ℕ → V)
 pub dropped : {V : Type 0} (ks js : List (Option ℕ)) (n : ℕ) (ys : List (Option V)) → js ≡ drop n ks → n ≡ length ys
     → length js ∷ pairs js ≡ oldest-dropped (length ks ∷ pairs ks) ys
 dropped ks js n ys e l = elim (cases-lt (length ks) (length ys)) [
-    | inl h ↦ rw (lt-ltb (length ks) (length ys) h) (ap (λ zs. length zs ∷ pairs zs) (e ∙ drop-all n ks (omega arith)))
-    | inr h ↦
-        let r : length js ≡ length ks - length ys = omega (arith, ap length e, length-drop n ks) in
-        let p = ap pairs e ∙ sym (pairs-drop n ks) ∙ ap (λ m. drop (2 * m) (pairs ks)) l in
-        rw (le-ltb (length ks) (length ys) h) (λ i. r i ∷ p i)
-    ]
+  | inl h ↦ rw (lt-ltb (length ks) (length ys) h) (ap (λ zs. length zs ∷ pairs zs) (e ∙ drop-all n ks (omega arith)))
+  | inr h ↦
+      let r : length js ≡ length ks - length ys = omega (arith, ap length e, length-drop n ks) in
+      let p = ap pairs e ∙ sym (pairs-drop n ks) ∙ ap (λ m. drop (2 * m) (pairs ks)) l in
+      rw (le-ltb (length ks) (length ys) h) (λ i. r i ∷ p i)
+]
 
 -- ---- the loops
 -- a batch goes in: what is held with what is to come is what it will be
 module _ {V : Type 0} (keyed : V → ℕ) (R : List (Row V)) (start : List (Option ℕ)) where
   abbrev pub Pushed : ℕ → List (Option ℕ) → Type 0
-  Pushed i ks = (ks ++ map (mapped keyed) (kept (drop i R)) ≡ start ++ map (mapped keyed) (kept R)) × (length ks + length (kept (drop i R)) ≤ 64)
+  Pushed i ks = (ks ++ map (mapped keyed) (kept (drop i R)) ≡ start ++ map (mapped keyed) (kept R)) × (length ks + length (kept (drop i R)) ≤ most-kept)
 
   pub pushed-more : (i : ℕ) (ks ks′ : List (Option ℕ)) (x : Option V) (k : Option ℕ) → Pushed i ks → kept (drop i R) ≡ x ∷ kept (drop (suc i) R) → k ≡ mapped keyed x → ks′ ≡ ks ++ k ∷ []
       → Pushed (i + 1) ks′
-  pushed-more i ks ks′ x k h e is es = rw (add-one i)
-      ( ap (λ z. z ++ map (mapped keyed) (kept (drop (suc i) R))) (es ∙ ap (λ z. ks ++ z ∷ []) is)
+  pushed-more i ks ks′ x k h e is es = rw (add-one i) (
+    ap (λ z. z ++ map (mapped keyed) (kept (drop (suc i) R))) (es ∙ ap (λ z. ks ++ z ∷ []) is)
         ∙ append-assoc ks (mapped keyed x ∷ []) (map (mapped keyed) (kept (drop (suc i) R)))
-        ∙ ap (λ z. ks ++ map (mapped keyed) z) (sym e) ∙ h .0
-      , omega (arith, h .1, ap length e, ap length es, length-append ks (k ∷ [])) )
+        ∙ ap (λ z. ks ++ map (mapped keyed) z) (sym e) ∙ h .0,
+    omega (arith, h .1, ap length e, ap length es, length-append ks (k ∷ [])),
+  )
 
   pub pushed-on : (i : ℕ) (ks ks′ : List (Option ℕ)) → Pushed i ks → kept (drop i R) ≡ kept (drop (suc i) R) → ks′ ≡ ks → Pushed (i + 1) ks′
-  pushed-on i ks ks′ h e es = rw (add-one i)
-      ( (λ j. es j ++ map (mapped keyed) (sym e j)) ∙ h .0
-      , omega (arith, h .1, ap length e, ap length es) )
+  pushed-on i ks ks′ h e es = rw (add-one i) (
+    (λ j. es j ++ map (mapped keyed) (sym e j)) ∙ h .0,
+    omega (arith, h .1, ap length e, ap length es),
+  )
 
   pub pushed-all : (i : ℕ) (ks : List (Option ℕ)) → length R ≤ i → Pushed i ks → ks ≡ start ++ map (mapped keyed) (kept R)
   pushed-all i ks l h = sym (append-nil ks) ∙ ap (λ z. ks ++ map (mapped keyed) (kept z)) (sym (drop-all i R l)) ∙ h .0
@@ -149,8 +151,8 @@ written-more ks out i k out′ h room e w =
     let once : set out′ n a ≡ front ++ a ∷ two .1 ∷ rest = ap (λ z. set z n a) before ∙ set-at front (two .0) (two .1 ∷ rest) n a long in
     let wide : suc n ≡ length (front ++ a ∷ []) = omega (arith, length-append front (a ∷ []), long) in
     let twice : set (set out′ n a) (suc n) b ≡ front ++ a ∷ b ∷ rest =
-        ap (λ z. set z (suc n) b) (once ∙ sym (append-assoc front (a ∷ []) (two .1 ∷ rest)))
-        ∙ set-at (front ++ a ∷ []) (two .1) rest (suc n) b wide ∙ append-assoc front (a ∷ []) (b ∷ rest) in
+    ap (λ z. set z (suc n) b) (once ∙ sym (append-assoc front (a ∷ []) (two .1 ∷ rest)))
+    ∙ set-at (front ++ a ∷ []) (two .1) rest (suc n) b wide ∙ append-assoc front (a ∷ []) (b ∷ rest) in
     let more : pairs (take (i + 1) ks) ≡ pairs (take i ks) ++ a ∷ b ∷ [] = ap (λ m. pairs (take m ks)) (add-one i) ∙ ap pairs (take-next ks i k e) ∙ pairs-++ (take i ks) (k ∷ []) in
     let on : suc (suc n) ≡ 1 + 2 * (i + 1) = omega arith in
     twice

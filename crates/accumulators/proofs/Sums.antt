@@ -19,7 +19,7 @@ use Rattle.std.specs.declared.option.Option.the-variants.{Some, None}
 use Rattle.std.proofs.shelf.Signed.{toZ-ofZ, sfits-wrapped, wrapped-fits, wrapped-add-left, wrapped-add-right, wrapped-sub-right, wrapping-add-is, wrapping-sub-is}
 use Rattle.std.proofs.shelf.Ways.{tells}
 use Rattle.accumulators.specs.Sql.{non-null, null-if-none, total, SUM}
-use Rattle.accumulators.specs.Figures.{Lawful, Retracting, Within, Each, rows-held, present-held, third-held, missing-at-0}
+use Rattle.accumulators.specs.Figures.{most-rows, Lawful, Retracting, Within, Each, rows-held, present-held, third-held, missing-at-0}
 use Rattle.accumulators.specs.Sums.{sum, sum-retracted, bits}
 use Rattle.accumulators.specs.declared.sum.Total.{Total}
 use Rattle.accumulators.proofs.Lists.{non-null-++, present-few, null-is}
@@ -47,19 +47,19 @@ read-back z = toZ-ofZ w64 (wrapped w64 z) (sfits-wrapped w64 z)
 
 total-more : (xs ys : List (Option ℤ)) → bits (toZ w64 (bits (total (non-null xs))) +ℤ total (non-null ys)) ≡ bits (total (non-null (xs ++ ys)))
 total-more xs ys = ap (ofZ w64)
-    ( ap (λ z. wrapped w64 (z +ℤ total (non-null ys))) (read-back (total (non-null xs)))
+    (ap (λ z. wrapped w64 (z +ℤ total (non-null ys))) (read-back (total (non-null xs)))
     ∙ wrapped-add-left w64 (total (non-null xs)) (total (non-null ys))
-    ∙ ap (wrapped w64) (sym (ap total (non-null-++ xs ys) ∙ total-++ (non-null xs) (non-null ys))) )
+    ∙ ap (wrapped w64) (sym (ap total (non-null-++ xs ys) ∙ total-++ (non-null xs) (non-null ys))))
 
 total-less : (xs ys : List (Option ℤ)) → bits (toZ w64 (bits (total (non-null (xs ++ ys)))) -ℤ total (non-null xs)) ≡ bits (total (non-null ys))
 total-less xs ys =
     let t = total (non-null xs) in
     let joined : total (non-null (xs ++ ys)) ≡ t +ℤ total (non-null ys) = ap total (non-null-++ xs ys) ∙ total-++ (non-null xs) (non-null ys) in
     ap (ofZ w64)
-    ( ap (λ z. wrapped w64 (z -ℤ t)) (read-back (total (non-null (xs ++ ys))))
+    (ap (λ z. wrapped w64 (z -ℤ t)) (read-back (total (non-null (xs ++ ys))))
     ∙ wrapped-add-left w64 (total (non-null (xs ++ ys))) (negℤ t)
     ∙ ap (λ z. wrapped w64 (z +ℤ negℤ t)) joined
-    ∙ ap (wrapped w64) (omega (arith, ints)) )
+    ∙ ap (wrapped w64) (omega (arith, ints)))
 
 pub sum-lawful : Lawful sum (Within sum)
 sum-lawful = lawful-within sum
@@ -84,7 +84,7 @@ few-small [] e = omega arith
 few-small (None ∷ xs) e = omega (arith, few-small xs e)
 few-small (Some v ∷ xs) e = omega (arith, few-small xs (e .1), e .0 .sfits, mag-add v (total (non-null xs)))
 
-pub sum-exact : (xs : List (Option ℤ)) → length xs ≤ 4096 → Each (SFits w32) xs → sum .answer xs ≡ SUM xs
+pub sum-exact : (xs : List (Option ℤ)) → length xs ≤ most-rows → Each (SFits w32) xs → sum .answer xs ≡ SUM xs
 sum-exact xs h e = ap (null-if-none (non-null xs)) (wrapped-fits w64 (total (non-null xs)) (record { sfits = omega (arith, few-small xs e) }))
 
 -- the totals of a batch added, and taken off
@@ -94,12 +94,12 @@ module _ (t : ℤ) (b : Total) (vs : List ℤ) (ft : SFits w64 t) (fb : SFits w6
 
   pub total-added : ofZ w64 (toZ w64 ((ofZ w64 t + ofZ w64 (b .value)) % 2 ^ 64)) ≡ bits (toZ w64 (ofZ w64 t) +ℤ total vs)
   total-added = ap (ofZ w64)
-      ( wrapping-add-is w64 t (b .value) ft fb
+      (wrapping-add-is w64 t (b .value) ft fb
       ∙ sym (wrapped-add-right w64 t (b .value)) ∙ ap (λ z. wrapped w64 (t +ℤ z)) batch-total ∙ wrapped-add-right w64 t (total vs)
-      ∙ ap (λ z. wrapped w64 (z +ℤ total vs)) (sym (toZ-ofZ w64 t ft)) )
+      ∙ ap (λ z. wrapped w64 (z +ℤ total vs)) (sym (toZ-ofZ w64 t ft)))
 
   pub total-taken : ofZ w64 (toZ w64 ((ofZ w64 t + (2 ^ 64 - ofZ w64 (b .value))) % 2 ^ 64)) ≡ bits (toZ w64 (ofZ w64 t) -ℤ total vs)
   total-taken = ap (ofZ w64)
-      ( wrapping-sub-is w64 t (b .value) ft fb
+      (wrapping-sub-is w64 t (b .value) ft fb
       ∙ sym (wrapped-sub-right w64 t (b .value)) ∙ ap (λ z. wrapped w64 (t -ℤ z)) batch-total ∙ wrapped-sub-right w64 t (total vs)
-      ∙ ap (λ z. wrapped w64 (z -ℤ total vs)) (sym (toZ-ofZ w64 t ft)) )
+      ∙ ap (λ z. wrapped w64 (z -ℤ total vs)) (sym (toZ-ofZ w64 t ft)))

@@ -8,15 +8,15 @@ use lib.ListN.{length, getD}
 use Rattle.std.specs.declared.option.Option.{Option}
 use Rattle.std.specs.declared.option.Option.the-variants.{Some}
 use Rattle.accumulators.specs.Sql.{non-null, COUNT}
-use Rattle.accumulators.specs.Figures.{Figure, rows-held, present-held}
+use Rattle.accumulators.specs.Figures.{Figure, most-rows, rows-held, present-held}
 
 abbrev pub count : (V : Type 0) → Figure V ℕ
 count V = record {
-  capacity = 4096;
+  capacity = most-rows;
   answer = COUNT;
   state = λ xs. length xs ∷ length (non-null xs) ∷ [];
   answered = λ s. Some (present-held s);
-  updated = λ s ys. (rows-held s + length ys) ∷ ((present-held s + length (non-null ys)) % 2 ^ 64) ∷ []
+  updated = λ s ys. (rows-held s + length ys) ∷ ((present-held s + length (non-null ys)) % 2 ^ 64) ∷ [];
 }
 
 -- non-missing stops at 0

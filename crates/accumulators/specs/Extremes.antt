@@ -9,7 +9,7 @@ use Rattle.std.specs.Options.{mapped}
 use Rattle.std.specs.declared.option.Option.{Option}
 use Rattle.std.specs.declared.option.Option.the-variants.{Some, None}
 use Rattle.accumulators.specs.Sql.{non-null, ahead}
-use Rattle.accumulators.specs.Figures.{Figure, rows-held, present-held, third-held, missing-at-0}
+use Rattle.accumulators.specs.Figures.{Figure, most-rows, rows-held, present-held, third-held, missing-at-0}
 
 -- the best key so far, with one more
 abbrev pub better : Bool → Option ℕ → ℕ → Option ℕ
@@ -35,9 +35,9 @@ best-held s = missing-at-0 (present-held s) (third-held s)
 
 abbrev pub extreme : {V : Type 0} → Bool → (V → ℕ) → (ℕ → V) → Figure V V
 extreme greatest keyed valued = record {
-  capacity = 4096;
+  capacity = most-rows;
   answer = λ xs. mapped valued (best greatest None (map keyed (non-null xs)));
   state = λ xs. extreme-state (length xs) (best greatest None (map keyed (non-null xs)));
   answered = λ s. mapped valued (best-held s);
-  updated = λ s ys. extreme-state (rows-held s + length ys) (best greatest (best-held s) (map keyed (non-null ys)))
+  updated = λ s ys. extreme-state (rows-held s + length ys) (best greatest (best-held s) (map keyed (non-null ys)));
 }

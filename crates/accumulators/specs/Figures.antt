@@ -6,6 +6,13 @@ use lib.ListN.{length, getD}
 use Rattle.std.specs.declared.option.Option.{Option}
 use Rattle.std.specs.declared.option.Option.the-variants.{Some, None}
 
+-- the most rows that an accumulator holds which does not keep them, and one which does
+abbrev pub most-rows : ℕ
+most-rows = 4096
+
+abbrev pub most-kept : ℕ
+most-kept = 64
+
 -- The first number of every state is the rows held. Where no row is kept, the second tells how many are not missing, and the
 -- third what is made of those.
 abbrev pub rows-held : List ℕ → ℕ

@@ -8,13 +8,13 @@ use lib.Ieee.{Float, fin}
 use Rattle.std.specs.declared.option.Option.{Option}
 use Rattle.kinds.specs.Keys.{floatKey, floatAt}
 use Rattle.accumulators.specs.Sql.{non-null, float-total, FLOAT-SUM}
-use Rattle.accumulators.specs.Figures.{Figure, rows-held, present-held, third-held, missing-at-0}
+use Rattle.accumulators.specs.Figures.{Figure, most-rows, rows-held, present-held, third-held, missing-at-0}
 
 abbrev pub float-sum : Figure Float Float
 float-sum = record {
-  capacity = 4096;
+  capacity = most-rows;
   answer = FLOAT-SUM;
   state = λ xs. length xs ∷ length (non-null xs) ∷ floatKey (float-total (fin false 0 (pos 0)) (non-null xs)) ∷ [];
   answered = λ s. missing-at-0 (present-held s) (floatAt (third-held s));
-  updated = λ s ys. (rows-held s + length ys) ∷ ((present-held s + length (non-null ys)) % 2 ^ 64) ∷ floatKey (float-total (floatAt (third-held s)) (non-null ys)) ∷ []
+  updated = λ s ys. (rows-held s + length ys) ∷ ((present-held s + length (non-null ys)) % 2 ^ 64) ∷ floatKey (float-total (floatAt (third-held s)) (non-null ys)) ∷ [];
 }

@@ -8,7 +8,7 @@ use Rattle.std.specs.Options.{mapped}
 use Rattle.std.specs.declared.option.Option.{Option}
 use Rattle.std.specs.declared.option.Option.the-variants.{Some, None}
 use Rattle.accumulators.specs.Sql.{non-null}
-use Rattle.accumulators.specs.Figures.{Figure, rows-held}
+use Rattle.accumulators.specs.Figures.{Figure, most-kept, rows-held}
 use Rattle.accumulators.specs.Extremes.{best, one-or-0, key-or-0}
 
 -- presence and key of each row
@@ -29,18 +29,18 @@ keys-in (suc p ∷ k ∷ ns) = k ∷ keys-in ns
 
 abbrev pub sliding-extreme : {V : Type 0} → Bool → (V → ℕ) → (ℕ → V) → Figure V V
 sliding-extreme greatest keyed valued = record {
-  capacity = 64;
+  capacity = most-kept;
   answer = λ xs. mapped valued (best greatest None (map keyed (non-null xs)));
   state = λ xs. length xs ∷ pairs (map (mapped keyed) xs);
   answered = λ s. mapped valued (best greatest None (keys-in (drop 1 s)));
-  updated = λ s ys. (rows-held s + length ys) ∷ (drop 1 s ++ pairs (map (mapped keyed) ys))
+  updated = λ s ys. (rows-held s + length ys) ∷ (drop 1 s ++ pairs (map (mapped keyed) ys));
 }
 
 -- as many of the oldest rows go
 abbrev pub oldest-dropped : {V : Type 0} → List ℕ → List (Option V) → List ℕ
 oldest-dropped s ys = cond (ltb (rows-held s) (length ys)) (0 ∷ []) ((rows-held s - length ys) ∷ drop (2 * length ys) (drop 1 s))
 
--- what a ring of 64 places holds: n rows from place p on
+-- what a ring holds: n rows from place p on
 abbrev pub ring-rows : List (Option ℕ) → ℕ → ℕ → List (Option ℕ)
 ring-rows ring p zero = []
-ring-rows ring p (suc n) = getD ring (p % 64) None ∷ ring-rows ring (suc p) n
+ring-rows ring p (suc n) = getD ring (p % most-kept) None ∷ ring-rows ring (suc p) n

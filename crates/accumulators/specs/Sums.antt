@@ -11,7 +11,7 @@ use Rattle.std.specs.shelf.Signed.{wrapped}
 use Rattle.std.specs.declared.option.Option.{Option}
 use Rattle.std.specs.declared.option.Option.the-variants.{Some, None}
 use Rattle.accumulators.specs.Sql.{non-null, null-if-none, total}
-use Rattle.accumulators.specs.Figures.{Figure, rows-held, present-held, third-held, missing-at-0}
+use Rattle.accumulators.specs.Figures.{Figure, most-rows, rows-held, present-held, third-held, missing-at-0}
 
 -- the 64 bits of a total, modulo 2^64
 abbrev pub bits : ℤ → ℕ
@@ -19,11 +19,11 @@ bits z = ofZ w64 (wrapped w64 z)
 
 abbrev pub sum : Figure ℤ ℤ
 sum = record {
-  capacity = 4096;
+  capacity = most-rows;
   answer = λ xs. null-if-none (non-null xs) (wrapped w64 (total (non-null xs)));
   state = λ xs. length xs ∷ length (non-null xs) ∷ bits (total (non-null xs)) ∷ [];
   answered = λ s. missing-at-0 (present-held s) (toZ w64 (third-held s));
-  updated = λ s ys. (rows-held s + length ys) ∷ ((present-held s + length (non-null ys)) % 2 ^ 64) ∷ bits (toZ w64 (third-held s) +ℤ total (non-null ys)) ∷ []
+  updated = λ s ys. (rows-held s + length ys) ∷ ((present-held s + length (non-null ys)) % 2 ^ 64) ∷ bits (toZ w64 (third-held s) +ℤ total (non-null ys)) ∷ [];
 }
 
 abbrev pub sum-retracted : List ℕ → List (Option ℤ) → List ℕ

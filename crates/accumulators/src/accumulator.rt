@@ -8,16 +8,19 @@ ghost use Rattle.std.specs.declared.option.Option.{Option as Opt};
 ghost use Rattle.accumulators.specs.Batches.{batch};
 ghost use Rattle.accumulators.specs.Figures.{Figure, Lawful, Retracting, Each};
 ghost use Rattle.accumulators.specs.Calls.{Updates, Writes};
-
 use crate::arguments::Arguments;
 use crate::refusals::Full;
 use crate::refusals::Short;
 use kinds::ordered::Ordered;
 
+/// The most rows that an accumulator holds which does not keep them.
+pub const CAPACITY: usize = 4096;
+
 /// A running figure over the rows put into it. Its numbers, the state, decide what every call
 /// answers and leaves, whether or not they stand for a list.
 pub trait Accumulator: Sized + Drop {
     type Value: Ordered;
+
     type Answer: Copy;
 
     ghost numbers: { Self → List ℕ };

@@ -4,7 +4,6 @@ ghost use mathlib.Core.Path.{_≡_};
 ghost use mathlib.Core.List.{[]};
 ghost use Rattle.accumulators.specs.Batches.{batch};
 ghost use Rattle.accumulators.specs.Calls.{Aggregates, Any-cut};
-
 use crate::accumulator::Accumulator;
 use crate::arguments::Arguments;
 use crate::refusals::Full;

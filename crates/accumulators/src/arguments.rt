@@ -15,4 +15,4 @@ pub struct Arguments<'a, V> {
     ghost masked: { length (mask-bytes mask (length (now values))) ≡ length (now values) },
 }
 
-pub mod reads;
+mod reads;

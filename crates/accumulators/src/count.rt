@@ -3,11 +3,11 @@
 ghost use mathlib.Core.Path.{_≡_};
 ghost use mathlib.Core.List.{[], _∷_};
 ghost use Prim.Native.Nat.{_≤_};
-ghost use Rattle.accumulators.specs.Figures.{Within};
+ghost use Rattle.accumulators.specs.Figures.{most-rows, Within};
 ghost use Rattle.accumulators.specs.Counts.{count, count-retracted};
 ghost use Rattle.accumulators.specs.Sql.{COUNT};
-
 use crate::accumulator::Accumulator;
+use crate::accumulator::CAPACITY;
 use crate::accumulator::Retract;
 use crate::arguments::Arguments;
 use crate::gather::Nothing;
@@ -17,19 +17,17 @@ use crate::refusals::Short;
 use kinds::ordered::Ordered;
 use std::marker::PhantomData;
 
-/// The most rows that an accumulator holds which does not keep them.
-pub const CAPACITY: usize = 4096;
-
 #[derive(Drop)]
 pub struct Count<V> {
     rows: usize,
     present: u64,
     kind: PhantomData<V>,
-    ghost few: { rows ≤ 4096 },
+    ghost few: { rows ≤ most-rows },
 }
 
 pub impl<V: Ordered> Accumulator for Count<V> as CountAccumulator {
     type Value = V;
+
     type Answer = u64;
 
     ghost numbers = { λ c. c .rows ∷ c .present ∷ [] };
@@ -41,14 +39,21 @@ pub impl<V: Ordered> Accumulator for Count<V> as CountAccumulator {
     ghost standard = { λ xs r. r ≡ COUNT xs };
 
     fn new() -> Count<V> {
-        Count { rows: 0, present: 0, kind: PhantomData }
+        Count {
+            rows: 0,
+            present: 0,
+            kind: PhantomData,
+        }
     }
 
     fn update(&mut self, rows: &Arguments<V>) -> Result<(), Full> {
         let batch = rows.gather(&mut Nothing);
         let held = self.rows;
         if batch.rows > CAPACITY - held {
-            return Err(Full { held, offered: batch.rows });
+            return Err(Full {
+                held,
+                offered: batch.rows,
+            });
         }
         self.rows = held + batch.rows;
         self.present = self.present.wrapping_add(batch.present as u64);

@@ -4,13 +4,12 @@ ghost use mathlib.Core.Path.{_≡_};
 ghost use mathlib.Core.Bool.{Bool, true, false};
 ghost use Prim.Native.Nat.{_≤_};
 ghost use lib.Dec.{ltb};
-ghost use Rattle.accumulators.specs.Figures.{Within};
+ghost use Rattle.accumulators.specs.Figures.{most-rows, Within};
 ghost use Rattle.accumulators.specs.Sql.{ahead, non-null, MIN-or-MAX};
 ghost use Rattle.accumulators.specs.Extremes.{better as better-key, extreme, extreme-state};
-
 use crate::accumulator::Accumulator;
+use crate::accumulator::CAPACITY;
 use crate::arguments::Arguments;
-use crate::count::CAPACITY;
 use crate::gather::Gather;
 use crate::refusals::Full;
 use crate::refusals::Short;
@@ -79,11 +78,12 @@ pub struct Extreme<V, D> {
     best: Option<u64>,
     kind: PhantomData<V>,
     direction: PhantomData<D>,
-    ghost few: { rows ≤ 4096 },
+    ghost few: { rows ≤ most-rows },
 }
 
 pub impl<V: Ordered, D: Direction> Accumulator for Extreme<V, D> as ExtremeAccumulator {
     type Value = V;
+
     type Answer = V;
 
     ghost numbers = { λ e. extreme-state (e .rows) (e .best) };
@@ -95,15 +95,26 @@ pub impl<V: Ordered, D: Direction> Accumulator for Extreme<V, D> as ExtremeAccum
     ghost standard = { λ xs. MIN-or-MAX (D·Direction .greatest) (V·Ordered .before) (non-null xs) };
 
     fn new() -> Extreme<V, D> {
-        Extreme { rows: 0, best: None, kind: PhantomData, direction: PhantomData }
+        Extreme {
+            rows: 0,
+            best: None,
+            kind: PhantomData,
+            direction: PhantomData,
+        }
     }
 
     fn update(&mut self, rows: &Arguments<V>) -> Result<(), Full> {
-        let mut best: Best<D> = Best { key: self.best, direction: PhantomData };
+        let mut best: Best<D> = Best {
+            key: self.best,
+            direction: PhantomData,
+        };
         let batch = rows.gather(&mut best);
         let held = self.rows;
         if batch.rows > CAPACITY - held {
-            return Err(Full { held, offered: batch.rows });
+            return Err(Full {
+                held,
+                offered: batch.rows,
+            });
         }
         self.rows = held + batch.rows;
         self.best = best.key;

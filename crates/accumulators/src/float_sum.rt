@@ -7,13 +7,12 @@ ghost use lib.Dec.{T};
 ghost use lib.Ieee as Ieee;
 ghost use lib.Ieee.{binary64, add};
 ghost use Rattle.kinds.specs.Keys.{floatKey};
-ghost use Rattle.accumulators.specs.Figures.{Within};
+ghost use Rattle.accumulators.specs.Figures.{most-rows, Within};
 ghost use Rattle.accumulators.specs.Sql.{FLOAT-SUM};
 ghost use Rattle.accumulators.specs.FloatSums.{float-sum};
-
 use crate::accumulator::Accumulator;
+use crate::accumulator::CAPACITY;
 use crate::arguments::Arguments;
-use crate::count::CAPACITY;
 use crate::gather::Gather;
 use crate::refusals::Full;
 use crate::refusals::Short;
@@ -39,13 +38,14 @@ pub struct FloatSum {
     rows: usize,
     present: usize,
     total: f64,
-    ghost few: { rows ≤ 4096 },
+    ghost few: { rows ≤ most-rows },
     ghost fewer: { present ≤ rows },
     ghost held: { T (Ieee.fits binary64 total) },
 }
 
 pub impl Accumulator for FloatSum as FloatSumAccumulator {
     type Value = f64;
+
     type Answer = f64;
 
     ghost numbers = { λ s. s .rows ∷ s .present ∷ floatKey (s .total) ∷ [] };
@@ -57,7 +57,11 @@ pub impl Accumulator for FloatSum as FloatSumAccumulator {
     ghost standard = { λ xs r. r ≡ FLOAT-SUM xs };
 
     fn new() -> FloatSum {
-        FloatSum { rows: 0, present: 0, total: 0.0 }
+        FloatSum {
+            rows: 0,
+            present: 0,
+            total: 0.0,
+        }
     }
 
     fn update(&mut self, rows: &Arguments<f64>) -> Result<(), Full> {
@@ -65,14 +69,25 @@ pub impl Accumulator for FloatSum as FloatSumAccumulator {
         let batch = rows.gather(&mut total);
         let held = self.rows;
         if batch.rows > CAPACITY - held {
-            return Err(Full { held, offered: batch.rows });
+            return Err(Full {
+                held,
+                offered: batch.rows,
+            });
         }
-        *self = FloatSum { rows: held + batch.rows, present: self.present + batch.present, total: total.value };
+        *self = FloatSum {
+            rows: held + batch.rows,
+            present: self.present + batch.present,
+            total: total.value,
+        };
         Ok(())
     }
 
     fn evaluate(&self) -> Option<f64> {
-        if self.present == 0 { None } else { Some(self.total) }
+        if self.present == 0 {
+            None
+        } else {
+            Some(self.total)
+        }
     }
 
     fn state_len(&self) -> usize {

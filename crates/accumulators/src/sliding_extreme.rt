@@ -7,23 +7,22 @@ ghost use lib.ListN.{length};
 ghost use Rattle.std.specs.Options.{mapped};
 ghost use Rattle.std.specs.declared.option.Option.the-variants.{None};
 ghost use Rattle.accumulators.specs.Batches.{batch};
-ghost use Rattle.accumulators.specs.Figures.{Within};
+ghost use Rattle.accumulators.specs.Figures.{most-kept, Within};
 ghost use Rattle.accumulators.specs.Sql.{non-null, MIN-or-MAX};
 ghost use Rattle.accumulators.specs.Extremes.{best as best-key};
 ghost use Rattle.accumulators.specs.SlidingExtremes.{sliding-extreme, oldest-dropped, pairs, put-pair};
 ghost use Rattle.accumulators.specs.Rings.{rows-in};
-
 use crate::accumulator::Accumulator;
 use crate::accumulator::Retract;
 use crate::arguments::Arguments;
-use crate::extreme::better;
 use crate::extreme::Direction;
+use crate::extreme::better;
 use crate::gather::Nothing;
 use crate::gather::NothingGather;
 use crate::refusals::Full;
 use crate::refusals::Short;
-use crate::ring::rows::HELD;
 use crate::ring::Ring;
+use crate::ring::rows::HELD;
 use kinds::ordered::Ordered;
 use std::marker::PhantomData;
 
@@ -45,7 +44,7 @@ fn key_of<V: Ordered>(value: Option<V>) -> Option<u64>
 
 /// Puts the rows of a batch into the ring, behind the newest.
 fn push_all<V: Ordered>(ring: &mut Ring, rows: &Arguments<V>)
-    requires { ⌜ length (rows-in (now ring)) + length (batch (now rows)) ≤ 64 ⌝ }
+    requires { ⌜ length (rows-in (now ring)) + length (batch (now rows)) ≤ most-kept ⌝ }
     ensures { λ _. ⌜ rows-in (now (ring .exit)) ≡ rows-in (now (ring .entry)) ++ map (mapped (V·Ordered .keyed)) (batch (now (rows .entry))) ⌝ }
 {
     for i in 0..rows.len() {
@@ -68,8 +67,12 @@ fn best<D: Direction>(ring: &Ring) -> Option<u64>
     best
 }
 
-pub impl<V: Ordered, D: Direction> Accumulator for SlidingExtreme<V, D> as SlidingExtremeAccumulator {
+pub impl<V: Ordered, D: Direction> Accumulator for SlidingExtreme<
+    V,
+    D,
+> as SlidingExtremeAccumulator {
     type Value = V;
+
     type Answer = V;
 
     ghost numbers = { λ e. length (rows-in (e .ring)) ∷ pairs (rows-in (e .ring)) };
@@ -81,7 +84,11 @@ pub impl<V: Ordered, D: Direction> Accumulator for SlidingExtreme<V, D> as Slidi
     ghost standard = { λ xs. MIN-or-MAX (D·Direction .greatest) (V·Ordered .before) (non-null xs) };
 
     fn new() -> SlidingExtreme<V, D> {
-        SlidingExtreme { ring: Ring::new(), kind: PhantomData, direction: PhantomData }
+        SlidingExtreme {
+            ring: Ring::new(),
+            kind: PhantomData,
+            direction: PhantomData,
+        }
     }
 
     fn update(&mut self, rows: &Arguments<V>) -> Result<(), Full> {

@@ -7,14 +7,13 @@ ghost use lib.IntN.{_+ℤ_};
 ghost use mir.Syntax.{w64};
 ghost use mir.Val.{ofZ};
 ghost use Rattle.std.specs.shelf.Signed.{wrapped};
-ghost use Rattle.accumulators.specs.Figures.{Within};
+ghost use Rattle.accumulators.specs.Figures.{most-rows, Within};
 ghost use Rattle.accumulators.specs.Sql.{SUM};
 ghost use Rattle.accumulators.specs.Sums.{sum, sum-retracted};
-
 use crate::accumulator::Accumulator;
+use crate::accumulator::CAPACITY;
 use crate::accumulator::Retract;
 use crate::arguments::Arguments;
-use crate::count::CAPACITY;
 use crate::gather::Gather;
 use crate::refusals::Full;
 use crate::refusals::Short;
@@ -39,11 +38,12 @@ pub struct Sum {
     rows: usize,
     present: u64,
     total: i64,
-    ghost few: { rows ≤ 4096 },
+    ghost few: { rows ≤ most-rows },
 }
 
 pub impl Accumulator for Sum as SumAccumulator {
     type Value = i32;
+
     type Answer = i64;
 
     ghost numbers = { λ s. s .rows ∷ s .present ∷ ofZ w64 (s .total) ∷ [] };
@@ -55,7 +55,11 @@ pub impl Accumulator for Sum as SumAccumulator {
     ghost standard = { λ xs r. r ≡ SUM xs };
 
     fn new() -> Sum {
-        Sum { rows: 0, present: 0, total: 0 }
+        Sum {
+            rows: 0,
+            present: 0,
+            total: 0,
+        }
     }
 
     fn update(&mut self, rows: &Arguments<i32>) -> Result<(), Full> {
@@ -63,7 +67,10 @@ pub impl Accumulator for Sum as SumAccumulator {
         let batch = rows.gather(&mut batch_total);
         let held = self.rows;
         if batch.rows > CAPACITY - held {
-            return Err(Full { held, offered: batch.rows });
+            return Err(Full {
+                held,
+                offered: batch.rows,
+            });
         }
         self.rows = held + batch.rows;
         self.present = self.present.wrapping_add(batch.present as u64);
@@ -72,7 +79,11 @@ pub impl Accumulator for Sum as SumAccumulator {
     }
 
     fn evaluate(&self) -> Option<i64> {
-        if self.present == 0 { None } else { Some(self.total) }
+        if self.present == 0 {
+            None
+        } else {
+            Some(self.total)
+        }
     }
 
     fn state_len(&self) -> usize {

@@ -5,7 +5,6 @@ ghost use lib.Dec.{T};
 ghost use lib.Ieee as Ieee;
 ghost use lib.Ieee.{binary64};
 ghost use Rattle.kinds.specs.Keys.{As-less, floatBefore, floatKey, floatAt};
-
 use crate::ordered::Ordered;
 use std::num::f64_from_bits_with_nan;
 use std::num::f64_to_bits_with_nan;
@@ -27,7 +26,11 @@ pub impl Ordered for f64 as FloatOrdered {
         ensures order { λ _. ⌜ As-less self ⌝ }
     {
         let bits = f64_to_bits_with_nan(self);
-        if bits < SIGN { bits + SIGN } else { u64::MAX - bits }
+        if bits < SIGN {
+            bits + SIGN
+        } else {
+            u64::MAX - bits
+        }
     }
 
     fn from_key(key: u64) -> f64 {

@@ -6,7 +6,6 @@ ghost use lib.Dec.{ltb};
 ghost use lib.IntN.{pos, negsuc, subℕ};
 ghost use lib.Signed.{_≤ℤ_, _<ℤ_};
 ghost use Rattle.kinds.specs.Keys.{tickKey, tickAt};
-
 use crate::ordered::Measured;
 use crate::ordered::Ordered;
 

@@ -7,12 +7,12 @@ ghost use lib.Signed.{_≤ℤ_, _<ℤ_, ltZ};
 ghost use mir.Val.{SFits};
 ghost use mir.Syntax.{w32};
 ghost use Rattle.kinds.specs.Keys.{wholeKey, wholeAt};
-
 use crate::ordered::Measured;
 use crate::ordered::Ordered;
 
 /// The key of 0.
 const BASE: i64 = 0x8000_0000;
+
 const GREATEST_KEY: u64 = 0xffff_ffff;
 
 pub impl Ordered for i32 as WholeOrdered {

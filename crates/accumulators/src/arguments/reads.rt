@@ -10,7 +10,6 @@ ghost use Rattle.accumulators.specs.Rows.{kept, mask-bytes, optional, rows};
 ghost use Rattle.accumulators.specs.Batches.{rows-of, batch};
 ghost use Rattle.accumulators.specs.Sql.{non-null};
 ghost use Rattle.accumulators.specs.Calls.{Measures};
-
 use crate::arguments::Arguments;
 use crate::gather::Gather;
 use crate::gather::Tally;
@@ -21,19 +20,6 @@ fn argument<V: Copy>(value: V, presence: u8) -> Option<V>
     ensures { λ r. ⌜ r ≡ optional value presence ⌝ }
 {
     if presence == 0 { None } else { Some(value) }
-}
-
-/// Whether the columns have one length; else the first that departs from the arguments.
-pub fn check_lengths<V: Copy>(values: &[V], presence: &[u8], mask: Option<&[u8]>) -> Result<(), Misfit>
-    ensures { λ r. ⌜ Measures (length (now (values .entry))) (length (now (presence .entry))) (length (mask-bytes (mask .entry) (length (now (values .entry))))) r ⌝ }
-{
-    if presence.len() != values.len() {
-        return Err(Misfit::Presence);
-    }
-    if mask_len(mask, values.len()) != values.len() {
-        return Err(Misfit::Mask);
-    }
-    Ok(())
 }
 
 /// The length of a mask, and of `rows` rows where there is none.
@@ -59,13 +45,33 @@ fn mask_part<'a>(mask: Option<&'a [u8]>, start: usize, end: usize) -> Option<&'a
 }
 
 impl<'a, V: Copy> Arguments<'a, V> {
+    /// Whether the columns have one length; else the first that departs from the arguments.
+    pub fn check_lengths(values: &[V], presence: &[u8], mask: Option<&[u8]>) -> Result<(), Misfit>
+        ensures { λ r. ⌜ Measures (length (now (values .entry))) (length (now (presence .entry))) (length (mask-bytes (mask .entry) (length (now (values .entry))))) r ⌝ }
+    {
+        if presence.len() != values.len() {
+            return Err(Misfit::Presence);
+        }
+        if mask_len(mask, values.len()) != values.len() {
+            return Err(Misfit::Mask);
+        }
+        Ok(())
+    }
+
     /// The rows that all columns have. In presence and mask 0 means no, any other byte yes; without a
     /// mask every row is kept.
     pub fn new(values: &'a [V], presence: &'a [u8], mask: Option<&'a [u8]>) -> Arguments<'a, V>
         ensures { λ r. ⌜ rows-of r ≡ rows (now (values .entry)) (now (presence .entry)) (mask-bytes (mask .entry) (length (now (values .entry)))) ⌝ }
     {
-        let len = values.len().min(presence.len()).min(mask_len(mask, values.len()));
-        Arguments { values: &values[0..len], presence: &presence[0..len], mask: mask_part(mask, 0, len) }
+        let len = values
+            .len()
+            .min(presence.len())
+            .min(mask_len(mask, values.len()));
+        Arguments {
+            values: &values[0..len],
+            presence: &presence[0..len],
+            mask: mask_part(mask, 0, len),
+        }
     }
 
     /// The rows from `start` on and before `end`, as many of them as there are.
@@ -76,7 +82,11 @@ impl<'a, V: Copy> Arguments<'a, V> {
         let start = start.min(end);
         let values = &self.values[start..end];
         let presence = &self.presence[start..end];
-        Arguments { values, presence, mask: mask_part(self.mask, start, end) }
+        Arguments {
+            values,
+            presence,
+            mask: mask_part(self.mask, start, end),
+        }
     }
 
     /// The number of rows, kept or not.

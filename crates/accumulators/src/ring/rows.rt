@@ -4,8 +4,8 @@ ghost use mathlib.Core.Path.{_≡_};
 ghost use mathlib.Core.List.{[], _∷_, _++_};
 ghost use Prim.Native.Nat.{suc, _<_, _≤_};
 ghost use lib.ListN.{length, drop};
+ghost use Rattle.accumulators.specs.Figures.{most-kept};
 ghost use Rattle.accumulators.specs.Rings.{rows-in};
-
 use crate::ring::Ring;
 
 /// The most rows that a ring holds.
@@ -15,12 +15,16 @@ impl Ring {
     pub fn new() -> Ring
         ensures { λ r. ⌜ rows-in r ≡ [] ⌝ }
     {
-        Ring { places: [None; 64], first: 0, held: 0 }
+        Ring {
+            places: [None; 64],
+            first: 0,
+            held: 0,
+        }
     }
 
     pub fn len(&self) -> usize
         ensures rows { λ r. ⌜ r ≡ length (rows-in (now (self .entry))) ⌝ }
-        ensures few { λ r. ⌜ r ≤ 64 ⌝ }
+        ensures few { λ r. ⌜ r ≤ most-kept ⌝ }
     {
         self.held
     }
@@ -34,7 +38,7 @@ impl Ring {
     }
 
     pub fn push(&mut self, key: Option<u64>)
-        requires { ⌜ length (rows-in (now self)) < 64 ⌝ }
+        requires { ⌜ length (rows-in (now self)) < most-kept ⌝ }
         ensures { λ _. ⌜ rows-in (now (self .exit)) ≡ rows-in (now (self .entry)) ++ key ∷ [] ⌝ }
     {
         let place = (self.first + self.held) % HELD;

@@ -14,7 +14,7 @@ returns-in-Break-update g c =
     let p = err-from-errBy (c .from-residual .result) (c .from-residual .ensures .1) in
     record {
       value = rw (p .1, p .2) (too-many F (g .A·Accumulator .stands) laws (numbers (c .new-accumulator .result)) xs (c .new-accumulator .ensures) _ (told .0) (told .2) (told .3));
-      cut = any-cut F (g .A·Accumulator .stands) laws
+      cut = any-cut F (g .A·Accumulator .stands) laws;
     }
 
 pub returns : need.returns
@@ -28,5 +28,5 @@ returns g c =
     let is = c .evaluate .ensures ∙ ap (F .answered) (told .1) ∙ w .1 in
     record {
       value = (w .0, is, λ f. subst (g .A·Accumulator .standard xs) (sym is) (g .A·Accumulator·met .sql xs (w .0) f));
-      cut = any-cut F (g .A·Accumulator .stands) laws
+      cut = any-cut F (g .A·Accumulator .stands) laws;
     }

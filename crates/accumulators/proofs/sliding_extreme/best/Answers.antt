@@ -14,8 +14,8 @@ pub loop-i-again : need.loop-i-again
 loop-i-again g c =
     let ks = rows-in (c .args .ring .now) in
     elim (c .match-row .came) [
-    | in-Some w ↦ best-more (g .D·Direction .greatest) ks (c .loop-i .i) (c .loop-i .best) (c .match-row .best) _ _ (w .in-Some .ensures tt) (c .loop-i .inv) (w .best-is ∙ w .better-best .ensures)
-    | in-rest w ↦ best-more (g .D·Direction .greatest) ks (c .loop-i .i) (c .loop-i .best) (c .match-row .best) _ _ (w .in-rest .ensures tt) (c .loop-i .inv) (w .best-is)
+      | in-Some w ↦ best-more (g .D·Direction .greatest) ks (c .loop-i .i) (c .loop-i .best) (c .match-row .best) _ _ (w .in-Some .ensures tt) (c .loop-i .inv) (w .best-is ∙ w .better-best .ensures)
+      | in-rest w ↦ best-more (g .D·Direction .greatest) ks (c .loop-i .i) (c .loop-i .best) (c .match-row .best) _ _ (w .in-rest .ensures tt) (c .loop-i .inv) (w .best-is)
     ]
 
 pub returns : need.returns

@@ -13,8 +13,8 @@ loop-i-again g c =
     let R = rows-of (c .args .rows .now) in
     let start = rows-in (c .args .ring .now) in
     elim (c .match-row .came) [
-    | in-Some w ↦ pushed-more (g .V·Ordered .keyed) R start (c .loop-i .i) (rows-in (c .loop-i .ring)) (rows-in (c .match-row .ring)) _ _ (c .loop-i .inv) (w .in-Some .ensures tt) (w .key-of .ensures) (ap rows-in (w .ring-is) ∙ w .push .ensures)
-    | in-rest w ↦ pushed-on (g .V·Ordered .keyed) R start (c .loop-i .i) (rows-in (c .loop-i .ring)) (rows-in (c .match-row .ring)) (c .loop-i .inv) (w .in-rest .ensures tt) (ap rows-in (w .ring-is))
+      | in-Some w ↦ pushed-more (g .V·Ordered .keyed) R start (c .loop-i .i) (rows-in (c .loop-i .ring)) (rows-in (c .match-row .ring)) _ _ (c .loop-i .inv) (w .in-Some .ensures tt) (w .key-of .ensures) (ap rows-in (w .ring-is) ∙ w .push .ensures)
+      | in-rest w ↦ pushed-on (g .V·Ordered .keyed) R start (c .loop-i .i) (rows-in (c .loop-i .ring)) (rows-in (c .match-row .ring)) (c .loop-i .inv) (w .in-rest .ensures tt) (ap rows-in (w .ring-is))
     ]
 
 pub returns : need.returns

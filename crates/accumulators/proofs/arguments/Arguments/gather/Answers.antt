@@ -16,9 +16,9 @@ pub loop-i-again : need.loop-i-again
 loop-i-again g c =
     let R = rows-of (c .args .self .now) in
     elim (c .match-row .came) [
-    | in-Some·in-Some-argument w ↦ value-more _ R _ _ _ _ _ _ _ _ (c .loop-i .inv) _ _ (w .in-Some .ensures tt) (w .in-Some-argument .is) (w .rows-is) (w .present-is) (w .figure-is ∙ w .gather .ensures)
-    | in-Some·in-rest-argument w ↦ missing-more _ R _ _ _ _ _ _ _ _ (c .loop-i .inv) _ (w .in-Some .ensures tt) (w .in-rest-argument .is) (w .rows-is) (w .present-is) (w .figure-is)
-    | in-rest w ↦ left-out-more _ R _ _ _ _ _ _ _ _ (c .loop-i .inv) (w .in-rest .ensures tt) (w .rows-is) (w .present-is) (w .figure-is)
+      | in-Some·in-Some-argument w ↦ value-more _ R _ _ _ _ _ _ _ _ (c .loop-i .inv) _ _ (w .in-Some .ensures tt) (w .in-Some-argument .is) (w .rows-is) (w .present-is) (w .figure-is ∙ w .gather .ensures)
+      | in-Some·in-rest-argument w ↦ missing-more _ R _ _ _ _ _ _ _ _ (c .loop-i .inv) _ (w .in-Some .ensures tt) (w .in-rest-argument .is) (w .rows-is) (w .present-is) (w .figure-is)
+      | in-rest w ↦ left-out-more _ R _ _ _ _ _ _ _ _ (c .loop-i .inv) (w .in-rest .ensures tt) (w .rows-is) (w .present-is) (w .figure-is)
     ]
 
 pub returns : need.returns

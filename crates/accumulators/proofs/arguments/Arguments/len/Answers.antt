@@ -9,5 +9,5 @@ returns g c =
     let a = c .args .self .now in
     record {
       rows = sym (rows-length (a .values .now) (a .presence .now) (mask-bytes (a .mask) (length (a .values .now))) (a .aligned) (a .masked));
-      columns = refl
+      columns = refl;
     }

@@ -20,10 +20,13 @@ ghost-result g c =
     let L = length vs in
     let s = c .min-start .result in
     let n = c .min-end .result - s in
-    let long : length (take n (drop s vs)) ≡ n = simp (length-take, length-drop) (omega arith) in
-    ( part-length vs (a .presence .now) s n (a .aligned)
-    , ( ap (λ k. length (mask-bytes (c .mask-part .result) k)) long ∙ ap length (c .mask-part .ensures L (omega arith)) ∙ part-length vs (mask-bytes (a .mask) L) s n (a .masked)
-      , tt ) )
+    let long : length (take n (drop s vs)) ≡ n = simp (length-take, length-drop) (omega arith) in (
+      part-length vs (a .presence .now) s n (a .aligned),
+      (
+        ap (λ k. length (mask-bytes (c .mask-part .result) k)) long ∙ ap length (c .mask-part .ensures L (omega arith)) ∙ part-length vs (mask-bytes (a .mask) L) s n (a .masked),
+        tt,
+      ),
+    )
 
 pub returns : need.returns
 returns g c =

@@ -16,11 +16,16 @@ pub ghost-self : need.ghost-self
 ghost-self c =
     let a = c .args .self .now in
     let told = c .gather-batch .ensures in
-    let vs = non-null (batch (c .args .rows .now)) in
-    ( omega arith
-    , ( omega (arith, told .fewer, a .fewer)
-      , ( subst (λ (z : Float). T (fits binary64 z)) (sym (ap (λ b. b .value) (told .figure) ∙ gathered-total _ vs)) (total-fits (a .total) vs (a .held))
-        , tt ) ) )
+    let vs = non-null (batch (c .args .rows .now)) in (
+      omega arith,
+      (
+        omega (arith, told .fewer, a .fewer),
+        (
+          subst (λ (z : Float). T (fits binary64 z)) (sym (ap (λ b. b .value) (told .figure) ∙ gathered-total _ vs)) (total-fits (a .total) vs (a .held)),
+          tt,
+        ),
+      ),
+    )
 
 pub returns : need.returns
 returns c =

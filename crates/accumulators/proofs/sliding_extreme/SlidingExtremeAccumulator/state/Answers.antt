@@ -25,6 +25,8 @@ returns g c =
     let long = c .state-len-needed .ensures in
     let twice = pairs-length ks in
     let rows = c .len-i-end .ensures .rows in
-    let room : 1 + 2 * length ks ≤ length (c .args .out .now) = omega arith in
-    ( long, omega arith
-    , written-all ks (c .args .out .now) (c .len .result) (c .loop-i .i) (c .loop-i .out) room (c .len .ensures .rows) (omega arith) (omega arith) (c .loop-i .inv) )
+    let room : 1 + 2 * length ks ≤ length (c .args .out .now) = omega arith in (
+      long,
+      omega arith,
+      written-all ks (c .args .out .now) (c .len .result) (c .loop-i .i) (c .loop-i .out) room (c .len .ensures .rows) (omega arith) (omega arith) (c .loop-i .inv),
+    )
