@@ -19,6 +19,11 @@ Measures arguments presence mask (Ok u) = (presence ≡ arguments) × (mask ≡ 
 Measures arguments presence mask (Err Presence) = presence ≡ arguments → ⊥
 Measures arguments presence mask (Err Mask) = (presence ≡ arguments) × (mask ≡ arguments → ⊥)
 
+-- rows held and offered together, or refused where they pass the capacity
+abbrev pub Has-room : ℕ → ℕ → ℕ → Result ℕ Full → Type 0
+Has-room held offered capacity (Ok n) = (n ≡ held + offered) × (n ≤ capacity)
+Has-room held offered capacity (Err e) = (capacity < held + offered) × (e .held ≡ held) × (e .offered ≡ offered)
+
 -- a batch is taken, or refused with the rows held and offered, exactly where they would pass the capacity
 abbrev pub Updates : {V Answer A : Type 0} → Figure V Answer → (A → List ℕ) → A → A → List (Option V) → Result (Unit {0}) Full → Type 0
 Updates F numbers a a′ ys (Ok u) = (rows-held (numbers a) + length ys ≤ F .capacity) × (numbers a′ ≡ F .updated (numbers a) ys)

@@ -13,9 +13,6 @@ use crate::refusals::Full;
 use crate::refusals::Short;
 use kinds::ordered::Ordered;
 
-/// The most rows that an accumulator holds which does not keep them.
-pub const CAPACITY: usize = 4096;
-
 /// A running figure over the rows put into it. Its numbers, the state, decide what every call
 /// answers and leaves, whether or not they stand for a list.
 pub trait Accumulator: Sized + Drop {

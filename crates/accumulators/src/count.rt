@@ -7,13 +7,15 @@ ghost use Rattle.accumulators.specs.Figures.{most-rows, Within};
 ghost use Rattle.accumulators.specs.Counts.{count, count-retracted};
 ghost use Rattle.accumulators.specs.Sql.{COUNT};
 use crate::accumulator::Accumulator;
-use crate::accumulator::CAPACITY;
 use crate::accumulator::Retract;
 use crate::arguments::Arguments;
+use crate::capacity::ROWS;
+use crate::capacity::make_room;
 use crate::gather::Nothing;
 use crate::gather::NothingGather;
 use crate::refusals::Full;
 use crate::refusals::Short;
+use crate::state::write_numbers;
 use kinds::ordered::Ordered;
 use std::marker::PhantomData;
 
@@ -48,14 +50,7 @@ pub impl<V: Ordered> Accumulator for Count<V> as CountAccumulator {
 
     fn update(&mut self, rows: &Arguments<V>) -> Result<(), Full> {
         let batch = rows.gather(&mut Nothing);
-        let held = self.rows;
-        if batch.rows > CAPACITY - held {
-            return Err(Full {
-                held,
-                offered: batch.rows,
-            });
-        }
-        self.rows = held + batch.rows;
+        self.rows = make_room(self.rows, batch.rows, ROWS)?;
         self.present = self.present.wrapping_add(batch.present as u64);
         Ok(())
     }
@@ -69,12 +64,7 @@ pub impl<V: Ordered> Accumulator for Count<V> as CountAccumulator {
     }
 
     fn state(&self, out: &mut [u64]) -> Result<usize, Short> {
-        if out.len() < 2 {
-            return Err(Short { needed: 2 });
-        }
-        out[0] = self.rows as u64;
-        out[1] = self.present;
-        Ok(2)
+        write_numbers(&[self.rows as u64, self.present], out)
     }
 }
 

@@ -6,13 +6,15 @@ ghost use Prim.Native.Nat.{_≤_};
 ghost use lib.Dec.{ltb};
 ghost use Rattle.accumulators.specs.Figures.{most-rows, Within};
 ghost use Rattle.accumulators.specs.Sql.{ahead, non-null, MIN-or-MAX};
-ghost use Rattle.accumulators.specs.Extremes.{better as better-key, extreme, extreme-state};
+ghost use Rattle.accumulators.specs.Extremes.{better as better-key, extreme, extreme-state, key-or-0, one-or-0};
 use crate::accumulator::Accumulator;
-use crate::accumulator::CAPACITY;
 use crate::arguments::Arguments;
+use crate::capacity::ROWS;
+use crate::capacity::make_room;
 use crate::gather::Gather;
 use crate::refusals::Full;
 use crate::refusals::Short;
+use crate::state::write_numbers;
 use kinds::ordered::Ordered;
 use std::marker::PhantomData;
 
@@ -54,6 +56,16 @@ pub(crate) fn better<D: Direction>(best: Option<u64>, key: u64) -> Option<u64>
     match best {
         None => Some(key),
         Some(old) => Some(if D::beats(key, old) { key } else { old }),
+    }
+}
+
+/// A row in a state: 1 and its key, or 0 and 0 where it is missing.
+pub(crate) fn presence_and_key(row: Option<u64>) -> (u64, u64)
+    ensures { λ r. ⌜ r ≡ (one-or-0 row, key-or-0 row) ⌝ }
+{
+    match row {
+        None => (0, 0),
+        Some(key) => (1, key),
     }
 }
 
@@ -109,14 +121,7 @@ pub impl<V: Ordered, D: Direction> Accumulator for Extreme<V, D> as ExtremeAccum
             direction: PhantomData,
         };
         let batch = rows.gather(&mut best);
-        let held = self.rows;
-        if batch.rows > CAPACITY - held {
-            return Err(Full {
-                held,
-                offered: batch.rows,
-            });
-        }
-        self.rows = held + batch.rows;
+        self.rows = make_room(self.rows, batch.rows, ROWS)?;
         self.best = best.key;
         Ok(())
     }
@@ -133,12 +138,7 @@ pub impl<V: Ordered, D: Direction> Accumulator for Extreme<V, D> as ExtremeAccum
     }
 
     fn state(&self, out: &mut [u64]) -> Result<usize, Short> {
-        if out.len() < 3 {
-            return Err(Short { needed: 3 });
-        }
-        out[0] = self.rows as u64;
-        out[1] = if self.best.is_some() { 1 } else { 0 };
-        out[2] = self.best.unwrap_or(0);
-        Ok(3)
+        let (presence, key) = presence_and_key(self.best);
+        write_numbers(&[self.rows as u64, presence, key], out)
     }
 }

@@ -11,11 +11,13 @@ ghost use Rattle.accumulators.specs.Figures.{most-rows, Within};
 ghost use Rattle.accumulators.specs.Sql.{FLOAT-SUM};
 ghost use Rattle.accumulators.specs.FloatSums.{float-sum};
 use crate::accumulator::Accumulator;
-use crate::accumulator::CAPACITY;
 use crate::arguments::Arguments;
+use crate::capacity::ROWS;
+use crate::capacity::make_room;
 use crate::gather::Gather;
 use crate::refusals::Full;
 use crate::refusals::Short;
+use crate::state::write_numbers;
 use kinds::float::FloatOrdered;
 use kinds::ordered::Ordered;
 
@@ -67,16 +69,11 @@ pub impl Accumulator for FloatSum as FloatSumAccumulator {
     fn update(&mut self, rows: &Arguments<f64>) -> Result<(), Full> {
         let mut total = Total { value: self.total };
         let batch = rows.gather(&mut total);
-        let held = self.rows;
-        if batch.rows > CAPACITY - held {
-            return Err(Full {
-                held,
-                offered: batch.rows,
-            });
-        }
+        let rows = make_room(self.rows, batch.rows, ROWS)?;
+        let present = self.present + batch.present;
         *self = FloatSum {
-            rows: held + batch.rows,
-            present: self.present + batch.present,
+            rows,
+            present,
             total: total.value,
         };
         Ok(())
@@ -95,12 +92,9 @@ pub impl Accumulator for FloatSum as FloatSumAccumulator {
     }
 
     fn state(&self, out: &mut [u64]) -> Result<usize, Short> {
-        if out.len() < 3 {
-            return Err(Short { needed: 3 });
-        }
-        out[0] = self.rows as u64;
-        out[1] = self.present as u64;
-        out[2] = self.total.key();
-        Ok(3)
+        write_numbers(
+            &[self.rows as u64, self.present as u64, self.total.key()],
+            out,
+        )
     }
 }

@@ -3,6 +3,7 @@
 pub mod accumulator;
 pub mod aggregate;
 pub mod arguments;
+pub mod capacity;
 pub mod count;
 pub mod extreme;
 pub mod float_sum;
@@ -10,4 +11,5 @@ mod gather;
 pub mod refusals;
 mod ring;
 pub mod sliding_extreme;
+mod state;
 pub mod sum;

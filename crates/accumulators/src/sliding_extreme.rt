@@ -15,14 +15,16 @@ ghost use Rattle.accumulators.specs.Rings.{rows-in};
 use crate::accumulator::Accumulator;
 use crate::accumulator::Retract;
 use crate::arguments::Arguments;
+use crate::capacity::KEPT;
+use crate::capacity::make_room;
 use crate::extreme::Direction;
 use crate::extreme::better;
+use crate::extreme::presence_and_key;
 use crate::gather::Nothing;
 use crate::gather::NothingGather;
 use crate::refusals::Full;
 use crate::refusals::Short;
 use crate::ring::Ring;
-use crate::ring::rows::HELD;
 use kinds::ordered::Ordered;
 use std::marker::PhantomData;
 
@@ -93,10 +95,7 @@ pub impl<V: Ordered, D: Direction> Accumulator for SlidingExtreme<
 
     fn update(&mut self, rows: &Arguments<V>) -> Result<(), Full> {
         let offered = rows.gather(&mut Nothing).rows;
-        let held = self.ring.len();
-        if offered > HELD - held {
-            return Err(Full { held, offered });
-        }
+        let _ = make_room(self.ring.len(), offered, KEPT)?;
         push_all(&mut self.ring, rows);
         Ok(())
     }
@@ -126,12 +125,13 @@ pub impl<V: Ordered, D: Direction> Accumulator for SlidingExtreme<
 }
 
 /// Writes presence and key of a row to two places.
-fn put_pair(out: &mut [u64], place: usize, key: Option<u64>)
+fn put_pair(out: &mut [u64], place: usize, row: Option<u64>)
     requires { ⌜ place + 2 ≤ length (now out) ⌝ }
-    ensures { λ _. ⌜ now (out .exit) ≡ put-pair (now (out .entry)) place key ⌝ }
+    ensures { λ _. ⌜ now (out .exit) ≡ put-pair (now (out .entry)) place row ⌝ }
 {
-    out[place] = if key.is_some() { 1 } else { 0 };
-    out[place + 1] = key.unwrap_or(0);
+    let (presence, key) = presence_and_key(row);
+    out[place] = presence;
+    out[place + 1] = key;
 }
 
 pub impl<V: Ordered, D: Direction> Retract for SlidingExtreme<V, D> as SlidingExtremeRetract {

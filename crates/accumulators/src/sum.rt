@@ -11,12 +11,14 @@ ghost use Rattle.accumulators.specs.Figures.{most-rows, Within};
 ghost use Rattle.accumulators.specs.Sql.{SUM};
 ghost use Rattle.accumulators.specs.Sums.{sum, sum-retracted};
 use crate::accumulator::Accumulator;
-use crate::accumulator::CAPACITY;
 use crate::accumulator::Retract;
 use crate::arguments::Arguments;
+use crate::capacity::ROWS;
+use crate::capacity::make_room;
 use crate::gather::Gather;
 use crate::refusals::Full;
 use crate::refusals::Short;
+use crate::state::write_numbers;
 use kinds::whole::WholeOrdered;
 
 /// A total modulo 2^64.
@@ -65,14 +67,7 @@ pub impl Accumulator for Sum as SumAccumulator {
     fn update(&mut self, rows: &Arguments<i32>) -> Result<(), Full> {
         let mut batch_total = Total { value: 0 };
         let batch = rows.gather(&mut batch_total);
-        let held = self.rows;
-        if batch.rows > CAPACITY - held {
-            return Err(Full {
-                held,
-                offered: batch.rows,
-            });
-        }
-        self.rows = held + batch.rows;
+        self.rows = make_room(self.rows, batch.rows, ROWS)?;
         self.present = self.present.wrapping_add(batch.present as u64);
         self.total = self.total.wrapping_add(batch_total.value);
         Ok(())
@@ -91,13 +86,10 @@ pub impl Accumulator for Sum as SumAccumulator {
     }
 
     fn state(&self, out: &mut [u64]) -> Result<usize, Short> {
-        if out.len() < 3 {
-            return Err(Short { needed: 3 });
-        }
-        out[0] = self.rows as u64;
-        out[1] = self.present;
-        out[2] = self.total.cast_unsigned();
-        Ok(3)
+        write_numbers(
+            &[self.rows as u64, self.present, self.total.cast_unsigned()],
+            out,
+        )
     }
 }
 

@@ -6,10 +6,8 @@ ghost use Prim.Native.Nat.{suc, _<_, _≤_};
 ghost use lib.ListN.{length, drop};
 ghost use Rattle.accumulators.specs.Figures.{most-kept};
 ghost use Rattle.accumulators.specs.Rings.{rows-in};
+use crate::capacity::KEPT;
 use crate::ring::Ring;
-
-/// The most rows that a ring holds.
-pub const HELD: usize = 64;
 
 impl Ring {
     pub fn new() -> Ring
@@ -34,14 +32,14 @@ impl Ring {
         requires { ⌜ i < length (rows-in (now self)) ⌝ }
         ensures { λ r. ⌜ drop i (rows-in (now (self .entry))) ≡ r ∷ drop (suc i) (rows-in (now (self .entry))) ⌝ }
     {
-        self.places[(self.first + i) % HELD]
+        self.places[(self.first + i) % KEPT]
     }
 
     pub fn push(&mut self, key: Option<u64>)
         requires { ⌜ length (rows-in (now self)) < most-kept ⌝ }
         ensures { λ _. ⌜ rows-in (now (self .exit)) ≡ rows-in (now (self .entry)) ++ key ∷ [] ⌝ }
     {
-        let place = (self.first + self.held) % HELD;
+        let place = (self.first + self.held) % KEPT;
         self.places[place] = key;
         self.held += 1;
     }
@@ -50,7 +48,7 @@ impl Ring {
         ensures { λ _. ⌜ rows-in (now (self .exit)) ≡ drop count (rows-in (now (self .entry))) ⌝ }
     {
         if count < self.held {
-            self.first = (self.first + count) % HELD;
+            self.first = (self.first + count) % KEPT;
             self.held -= count;
         } else {
             self.held = 0;

@@ -15,6 +15,7 @@ returns g c =
     let vs = non-null (batch (c .args .rows .now)) in
     let greatest = g .D·Direction .greatest in
     let keyed = g .V·Ordered .keyed in
-    let r = ap (λ n. a .rows + n) (told .rows) in
+    let room = c .in-Continue-self .ensures tt in
+    let r = room .0 ∙ ap (λ n. a .rows + n) (told .rows) in
     let b = ap (λ b. b .key) (told .figure) ∙ gathered-best greatest keyed _ vs ∙ ap (λ z. best greatest z (map keyed vs)) (sym (held-best (a .rows) (a .best))) in
-    (omega (arith, told .rows), λ i. extreme-state (r i) (b i))
+    (omega (arith, room .0, room .1, told .rows), λ i. extreme-state (r i) (b i))

@@ -32,7 +32,8 @@ returns c =
     let a = c .args .self .now in
     let told = c .gather-batch .ensures in
     let vs = non-null (batch (c .args .rows .now)) in
-    let r = ap (λ n. a .rows + n) (told .rows) in
+    let room = c .in-Continue-rows .ensures tt in
+    let r = room .0 ∙ ap (λ n. a .rows + n) (told .rows) in
     let p : a .present + c .gather-batch .result .present ≡ (a .present + length vs) % 2 ^ 64 = omega (arith, told .present, told .fewer, a .fewer, a .few) in
     let t = ap floatKey (ap (λ b. b .value) (told .figure) ∙ gathered-total _ vs ∙ ap (λ z. float-total z vs) (sym (float-back (a .total) (a .held)))) in
-    (omega (arith, told .rows), λ i. r i ∷ p i ∷ t i ∷ [])
+    (omega (arith, room .0, room .1, told .rows), λ i. r i ∷ p i ∷ t i ∷ [])

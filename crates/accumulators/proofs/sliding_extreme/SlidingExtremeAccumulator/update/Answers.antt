@@ -16,7 +16,8 @@ returns g c =
     let ks = rows-in (c .args .self .now .ring) in
     let ys = batch (c .args .rows .now) in
     let js = map (mapped (g .V·Ordered .keyed)) ys in
+    let room = c .in-Continue-make-room .ensures tt in
     let after = c .push-all .ensures in
     let r : length (rows-in (c .push-all .last .ring)) ≡ length ks + length ys = ap length after ∙ length-append ks js ∙ ap (λ n. length ks + n) (length-map ys (mapped (g .V·Ordered .keyed))) in
     let p = ap pairs after ∙ pairs-++ ks js in
-    (omega (arith, c .gather-offered .ensures .rows, c .len-held .ensures .rows), λ i. r i ∷ p i)
+    (omega (arith, room .0, room .1, c .gather-offered .ensures .rows, c .len .ensures .rows), λ i. r i ∷ p i)

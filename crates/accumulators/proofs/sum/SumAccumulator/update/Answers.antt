@@ -17,7 +17,8 @@ returns c =
     let told = c .gather-batch .ensures in
     let fits-total : SFits w64 (a .total) = search needs in
     let fits-batch : SFits w64 (b .value) = search needs in
-    let r = ap (λ n. a .rows + n) (told .rows) in
+    let room = c .in-Continue-self .ensures tt in
+    let r = room .0 ∙ ap (λ n. a .rows + n) (told .rows) in
     let p = ap (λ n. (a .present + n) % 2 ^ 64) (told .present) in
     let t = total-added (a .total) b (non-null (batch (c .args .rows .now))) fits-total fits-batch (told .figure) in
-    (omega (arith, told .rows), λ i. r i ∷ p i ∷ t i ∷ [])
+    (omega (arith, room .0, room .1, told .rows), λ i. r i ∷ p i ∷ t i ∷ [])
