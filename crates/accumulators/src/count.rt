@@ -19,6 +19,9 @@ use crate::state::write_numbers;
 use kinds::ordered::Ordered;
 use std::marker::PhantomData;
 
+/// How many numbers the state has.
+const NUMBERS: usize = 2;
+
 #[derive(Drop)]
 pub struct Count<V> {
     rows: usize,
@@ -60,7 +63,7 @@ pub impl<V: Ordered> Accumulator for Count<V> as CountAccumulator {
     }
 
     fn state_len(&self) -> usize {
-        2
+        NUMBERS
     }
 
     fn state(&self, out: &mut [u64]) -> Result<usize, Short> {

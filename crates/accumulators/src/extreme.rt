@@ -84,6 +84,9 @@ impl<V: Ordered, D: Direction> Gather<V> for Best<D> as BestGather {
     }
 }
 
+/// How many numbers the state has.
+const NUMBERS: usize = 3;
+
 #[derive(Drop)]
 pub struct Extreme<V, D> {
     rows: usize,
@@ -134,7 +137,7 @@ pub impl<V: Ordered, D: Direction> Accumulator for Extreme<V, D> as ExtremeAccum
     }
 
     fn state_len(&self) -> usize {
-        3
+        NUMBERS
     }
 
     fn state(&self, out: &mut [u64]) -> Result<usize, Short> {

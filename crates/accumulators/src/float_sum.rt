@@ -35,6 +35,9 @@ impl Gather<f64> for Total as TotalGather {
     }
 }
 
+/// How many numbers the state has.
+const NUMBERS: usize = 3;
+
 #[derive(Drop)]
 pub struct FloatSum {
     rows: usize,
@@ -88,7 +91,7 @@ pub impl Accumulator for FloatSum as FloatSumAccumulator {
     }
 
     fn state_len(&self) -> usize {
-        3
+        NUMBERS
     }
 
     fn state(&self, out: &mut [u64]) -> Result<usize, Short> {

@@ -35,6 +35,9 @@ impl Gather<i32> for Total as TotalGather {
     }
 }
 
+/// How many numbers the state has.
+const NUMBERS: usize = 3;
+
 #[derive(Drop)]
 pub struct Sum {
     rows: usize,
@@ -82,7 +85,7 @@ pub impl Accumulator for Sum as SumAccumulator {
     }
 
     fn state_len(&self) -> usize {
-        3
+        NUMBERS
     }
 
     fn state(&self, out: &mut [u64]) -> Result<usize, Short> {

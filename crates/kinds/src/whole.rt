@@ -42,6 +42,6 @@ pub impl Measured for i32 as WholeMeasured {
         ensures high { λ r. ⌜ r <ℤ pos (2 ^ 32) ⌝ }
         ensures own { λ r. ⌜ r ≡ self ⌝ }
     {
-        i64::from(self)
+        self as i64
     }
 }
