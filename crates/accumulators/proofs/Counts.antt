@@ -8,10 +8,11 @@ use borrow.Author.Tests.{lt-ltb, le-ltb}
 use lib.Dec.{ltb}
 use lib.ListN.{length, length-append}
 use Rattle.std.specs.declared.option.Option.{Option}
-use Rattle.accumulators.specs.Sql.{non-null}
+use Rattle.rows.specs.Rows.{non-null}
 use Rattle.accumulators.specs.Figures.{most-rows, Lawful, Retracting, Within, rows-held, present-held}
 use Rattle.accumulators.specs.Counts.{count, count-retracted}
-use Rattle.accumulators.proofs.Lists.{present-++, present-few}
+use Rattle.rows.proofs.Lists.{present-few}
+use Rattle.accumulators.proofs.Lists.{present-++}
 use Rattle.accumulators.proofs.Laws.{lawful-within, retracting-within}
 
 -- rows and those not missing, with a batch behind

@@ -14,11 +14,13 @@ use Rattle.std.specs.shelf.Lists.{All, Has}
 use Rattle.std.proofs.shelf.Lists.{map-append}
 use Rattle.std.proofs.shelf.Elements.{all-has, has-append-right}
 use Rattle.std.proofs.shelf.Ways.{tells}
-use Rattle.accumulators.specs.Sql.{non-null, ahead, MIN-or-MAX}
+use Rattle.rows.specs.Rows.{non-null}
+use Rattle.accumulators.specs.Sql.{ahead, MIN-or-MAX}
 use Rattle.accumulators.specs.Figures.{Lawful, Within, Each}
 use Rattle.accumulators.specs.Extremes.{better, best, extreme, extreme-state, best-held}
 use Rattle.accumulators.specs.declared.extreme.Best.{Best}
-use Rattle.accumulators.proofs.Lists.{non-null-++, folded-++, each-value}
+use Rattle.rows.proofs.Lists.{non-null-++, folded-++}
+use Rattle.accumulators.proofs.Lists.{each-value}
 use Rattle.accumulators.proofs.Laws.{lawful-within}
 use Rattle.accumulators.proofs.Counts.{rows-more}
 

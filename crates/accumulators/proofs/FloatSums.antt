@@ -14,11 +14,13 @@ use Rattle.std.specs.declared.option.Option.{Option}
 use Rattle.std.specs.declared.option.Option.the-variants.{Some, None}
 use Rattle.kinds.specs.Keys.{floatKey, floatAt}
 use Rattle.kinds.proofs.FloatKeys.{float-back}
-use Rattle.accumulators.specs.Sql.{non-null, null-if-none, float-total}
+use Rattle.rows.specs.Rows.{non-null}
+use Rattle.accumulators.specs.Sql.{null-if-none, float-total}
 use Rattle.accumulators.specs.Figures.{Lawful, Within, missing-at-0}
 use Rattle.accumulators.specs.FloatSums.{float-sum}
 use Rattle.accumulators.specs.declared.float_sum.Total.{Total}
-use Rattle.accumulators.proofs.Lists.{non-null-++, folded-++, null-is}
+use Rattle.rows.proofs.Lists.{non-null-++, folded-++}
+use Rattle.accumulators.proofs.Lists.{null-is}
 use Rattle.accumulators.proofs.Laws.{lawful-within}
 use Rattle.accumulators.proofs.Counts.{rows-more, present-more}
 

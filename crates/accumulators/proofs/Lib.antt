@@ -1,5 +1,3 @@
-pub mod RowLists
-pub mod Gathers
 pub mod Lists
 pub mod Laws
 pub mod Counts

@@ -8,31 +8,13 @@ use Rattle.std.specs.declared.option.Option.{Option}
 use Rattle.std.specs.declared.option.Option.the-variants.{Some, None}
 use Rattle.std.specs.Iters.{folded}
 use Rattle.std.specs.shelf.Lists.{All}
-use Rattle.accumulators.specs.Sql.{non-null, null-if-none}
+use Rattle.rows.specs.Rows.{non-null}
+use Rattle.rows.proofs.Lists.{non-null-++}
+use Rattle.accumulators.specs.Sql.{null-if-none}
 use Rattle.accumulators.specs.Figures.{Each, missing-at-0}
-
-pub drop-past : {A : Type 0} (xs : List A) (i : ℕ) → length xs ≤ i → drop i xs ≡ []
-drop-past [] zero h = refl
-drop-past [] (suc i) h = refl
-drop-past (x ∷ xs) zero h = absurd (omega arith)
-drop-past (x ∷ xs) (suc i) h = drop-past xs i (omega arith)
-
-pub folded-++ : {S V : Type 0} (f : S → V → S) (s : S) (xs ys : List V) → folded f s (xs ++ ys) ≡ folded f (folded f s xs) ys
-folded-++ f s [] ys = refl
-folded-++ f s (x ∷ xs) ys = folded-++ f (f s x) xs ys
-
-pub non-null-++ : {V : Type 0} (xs ys : List (Option V)) → non-null (xs ++ ys) ≡ non-null xs ++ non-null ys
-non-null-++ [] ys = refl
-non-null-++ (None ∷ xs) ys = non-null-++ xs ys
-non-null-++ (Some v ∷ xs) ys = ap (λ z. v ∷ z) (non-null-++ xs ys)
 
 pub present-++ : {V : Type 0} (xs ys : List (Option V)) → length (non-null (xs ++ ys)) ≡ length (non-null xs) + length (non-null ys)
 present-++ xs ys = ap length (non-null-++ xs ys) ∙ length-append (non-null xs) (non-null ys)
-
-pub present-few : {V : Type 0} (xs : List (Option V)) → length (non-null xs) ≤ length xs
-present-few [] = omega arith
-present-few (None ∷ xs) = omega (arith, present-few xs)
-present-few (Some v ∷ xs) = omega (arith, present-few xs)
 
 pub null-is : {V A : Type 0} (vs : List V) (a : A) → missing-at-0 (length vs) a ≡ null-if-none vs a
 null-is [] a = refl

@@ -14,8 +14,8 @@ use Rattle.std.specs.declared.option.Option.{Option}
 use Rattle.std.specs.declared.option.Option.the-variants.{Some, None}
 use Rattle.std.proofs.shelf.Tests.{cases-lt}
 use Rattle.std.proofs.shelf.Lists.{map-append, length-map, length-drop, length-take, drop-all, take-all}
-use Rattle.accumulators.specs.Rows.{Row, kept}
-use Rattle.accumulators.specs.Sql.{non-null}
+use Rattle.rows.specs.Rows.{Row, kept}
+use Rattle.rows.specs.Rows.{non-null}
 use Rattle.accumulators.specs.Figures.{most-kept, Lawful, Retracting, Within, rows-held}
 use Rattle.accumulators.specs.Extremes.{best, one-or-0, key-or-0}
 use Rattle.accumulators.specs.SlidingExtremes.{sliding-extreme, oldest-dropped, pairs, put-pair, keys-in}

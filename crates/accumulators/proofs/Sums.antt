@@ -18,11 +18,13 @@ use Rattle.std.specs.declared.option.Option.{Option}
 use Rattle.std.specs.declared.option.Option.the-variants.{Some, None}
 use Rattle.std.proofs.shelf.Signed.{toZ-ofZ, sfits-wrapped, wrapped-fits, wrapped-add-left, wrapped-add-right, wrapped-sub-right, wrapping-add-is, wrapping-sub-is}
 use Rattle.std.proofs.shelf.Ways.{tells}
-use Rattle.accumulators.specs.Sql.{non-null, null-if-none, total, SUM}
+use Rattle.rows.specs.Rows.{non-null}
+use Rattle.accumulators.specs.Sql.{null-if-none, total, SUM}
 use Rattle.accumulators.specs.Figures.{most-rows, Lawful, Retracting, Within, Each, rows-held, present-held, third-held, missing-at-0}
 use Rattle.accumulators.specs.Sums.{sum, sum-retracted, bits}
 use Rattle.accumulators.specs.declared.sum.Total.{Total}
-use Rattle.accumulators.proofs.Lists.{non-null-++, present-few, null-is}
+use Rattle.rows.proofs.Lists.{non-null-++, present-few}
+use Rattle.accumulators.proofs.Lists.{null-is}
 use Rattle.accumulators.proofs.Laws.{lawful-within, retracting-within}
 use Rattle.accumulators.proofs.Counts.{rows-more, present-more, rows-less, present-less, enough}
 

@@ -10,14 +10,6 @@ use Rattle.std.specs.declared.result.Result.the-variants.{Ok, Err}
 use Rattle.accumulators.specs.Figures.{Figure, Each, rows-held}
 use Rattle.accumulators.specs.declared.refusals.Full.{Full}
 use Rattle.accumulators.specs.declared.refusals.Short.{Short}
-use Rattle.accumulators.specs.declared.refusals.Misfit.{Misfit}
-use Rattle.accumulators.specs.declared.refusals.Misfit.the-variants.{Presence, Mask}
-
--- the arguments, their presence and the mask have one length; else the first that departs is named
-abbrev pub Measures : ℕ → ℕ → ℕ → Result (Unit {0}) Misfit → Type 0
-Measures arguments presence mask (Ok u) = (presence ≡ arguments) × (mask ≡ arguments)
-Measures arguments presence mask (Err Presence) = presence ≡ arguments → ⊥
-Measures arguments presence mask (Err Mask) = (presence ≡ arguments) × (mask ≡ arguments → ⊥)
 
 -- rows held and offered together, or refused where they pass the capacity
 abbrev pub Has-room : ℕ → ℕ → ℕ → Result ℕ Full → Type 0

@@ -7,7 +7,8 @@ use lib.Dec.{ltb}
 use lib.ListN.{length, getD}
 use Rattle.std.specs.declared.option.Option.{Option}
 use Rattle.std.specs.declared.option.Option.the-variants.{Some}
-use Rattle.accumulators.specs.Sql.{non-null, COUNT}
+use Rattle.rows.specs.Rows.{non-null}
+use Rattle.accumulators.specs.Sql.{COUNT}
 use Rattle.accumulators.specs.Figures.{Figure, most-rows, rows-held, present-held}
 
 abbrev pub count : (V : Type 0) → Figure V ℕ

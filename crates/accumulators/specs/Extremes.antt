@@ -8,7 +8,8 @@ use Rattle.std.specs.Iters.{folded}
 use Rattle.std.specs.Options.{mapped}
 use Rattle.std.specs.declared.option.Option.{Option}
 use Rattle.std.specs.declared.option.Option.the-variants.{Some, None}
-use Rattle.accumulators.specs.Sql.{non-null, ahead}
+use Rattle.rows.specs.Rows.{non-null}
+use Rattle.accumulators.specs.Sql.{ahead}
 use Rattle.accumulators.specs.Figures.{Figure, most-rows, rows-held, present-held, third-held, missing-at-0}
 
 -- the best key so far, with one more

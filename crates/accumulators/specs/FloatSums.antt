@@ -7,7 +7,8 @@ use lib.IntN.{pos}
 use lib.Ieee.{Float, fin}
 use Rattle.std.specs.declared.option.Option.{Option}
 use Rattle.kinds.specs.Keys.{floatKey, floatAt}
-use Rattle.accumulators.specs.Sql.{non-null, float-total, FLOAT-SUM}
+use Rattle.rows.specs.Rows.{non-null}
+use Rattle.accumulators.specs.Sql.{float-total, FLOAT-SUM}
 use Rattle.accumulators.specs.Figures.{Figure, most-rows, rows-held, present-held, third-held, missing-at-0}
 
 abbrev pub float-sum : Figure Float Float

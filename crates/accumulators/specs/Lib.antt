@@ -1,5 +1,3 @@
-pub mod Rows
-pub mod Batches
 pub mod Sql
 pub mod Figures
 pub mod Calls

@@ -7,7 +7,7 @@ use lib.ListN.{length, getD, set, drop}
 use Rattle.std.specs.Options.{mapped}
 use Rattle.std.specs.declared.option.Option.{Option}
 use Rattle.std.specs.declared.option.Option.the-variants.{Some, None}
-use Rattle.accumulators.specs.Sql.{non-null}
+use Rattle.rows.specs.Rows.{non-null}
 use Rattle.accumulators.specs.Figures.{Figure, most-kept, rows-held}
 use Rattle.accumulators.specs.Extremes.{best, one-or-0, key-or-0}
 

@@ -1,4 +1,4 @@
--- Set functions over the values of a group, as ISO/IEC 9075-2:2003 has them. Assumes nothing.
+-- Set functions over the values of a group, as ISO/IEC 9075-2:2003 has them: null values are eliminated first. Assumes nothing.
 use mathlib.Core.Path.{_≡_}
 use mathlib.Core.Bool.{Bool, true, false}
 use mathlib.Core.List.{List, [], _∷_}
@@ -11,12 +11,7 @@ use Rattle.std.specs.Iters.{folded}
 use Rattle.std.specs.shelf.Lists.{All, Has}
 use Rattle.std.specs.declared.option.Option.{Option}
 use Rattle.std.specs.declared.option.Option.the-variants.{Some, None}
-
--- Null values are eliminated first.
-abbrev pub non-null : {V : Type 0} → List (Option V) → List V
-non-null [] = []
-non-null (None ∷ xs) = non-null xs
-non-null (Some v ∷ xs) = v ∷ non-null xs
+use Rattle.rows.specs.Rows.{non-null}
 
 -- COUNT is the number of values.
 abbrev pub COUNT : {V : Type 0} → List (Option V) → Option ℕ

@@ -10,7 +10,8 @@ use mir.Val.{ofZ, toZ}
 use Rattle.std.specs.shelf.Signed.{wrapped}
 use Rattle.std.specs.declared.option.Option.{Option}
 use Rattle.std.specs.declared.option.Option.the-variants.{Some, None}
-use Rattle.accumulators.specs.Sql.{non-null, null-if-none, total}
+use Rattle.rows.specs.Rows.{non-null}
+use Rattle.accumulators.specs.Sql.{null-if-none, total}
 use Rattle.accumulators.specs.Figures.{Figure, most-rows, rows-held, present-held, third-held, missing-at-0}
 
 -- the 64 bits of a total, modulo 2^64

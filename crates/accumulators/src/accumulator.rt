@@ -5,13 +5,13 @@ ghost use mathlib.Core.List.{List, []};
 ghost use Prim.Native.Nat.{ℕ, _≤_};
 ghost use lib.ListN.{length};
 ghost use Rattle.std.specs.declared.option.Option.{Option as Opt};
-ghost use Rattle.accumulators.specs.Batches.{batch};
+ghost use Rattle.rows.specs.Batches.{batch};
 ghost use Rattle.accumulators.specs.Figures.{Figure, Lawful, Retracting, Each};
 ghost use Rattle.accumulators.specs.Calls.{Updates, Writes};
-use crate::arguments::Arguments;
 use crate::refusals::Full;
 use crate::refusals::Short;
 use kinds::ordered::Ordered;
+use rows::arguments::Arguments;
 
 /// A running figure over the rows put into it. Its numbers, the state, decide what every call
 /// answers and leaves, whether or not they stand for a list.

@@ -2,11 +2,11 @@
 
 ghost use mathlib.Core.Path.{_≡_};
 ghost use mathlib.Core.List.{[]};
-ghost use Rattle.accumulators.specs.Batches.{batch};
+ghost use Rattle.rows.specs.Batches.{batch};
 ghost use Rattle.accumulators.specs.Calls.{Aggregates, Any-cut};
 use crate::accumulator::Accumulator;
-use crate::arguments::Arguments;
 use crate::refusals::Full;
+use rows::arguments::Arguments;
 
 /// The answer over no rows, which an empty frame has.
 pub fn default_value<A: Accumulator>() -> Option<A::Answer>

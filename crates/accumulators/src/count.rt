@@ -8,15 +8,15 @@ ghost use Rattle.accumulators.specs.Counts.{count, count-retracted};
 ghost use Rattle.accumulators.specs.Sql.{COUNT};
 use crate::accumulator::Accumulator;
 use crate::accumulator::Retract;
-use crate::arguments::Arguments;
 use crate::capacity::ROWS;
 use crate::capacity::make_room;
-use crate::gather::Nothing;
-use crate::gather::NothingGather;
 use crate::refusals::Full;
 use crate::refusals::Short;
 use crate::state::write_numbers;
 use kinds::ordered::Ordered;
+use rows::arguments::Arguments;
+use rows::gather::Nothing;
+use rows::gather::NothingGather;
 use std::marker::PhantomData;
 
 /// How many numbers the state has.

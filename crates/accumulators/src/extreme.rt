@@ -5,17 +5,18 @@ ghost use mathlib.Core.Bool.{Bool, true, false};
 ghost use Prim.Native.Nat.{_≤_};
 ghost use lib.Dec.{ltb};
 ghost use Rattle.accumulators.specs.Figures.{most-rows, Within};
-ghost use Rattle.accumulators.specs.Sql.{ahead, non-null, MIN-or-MAX};
+ghost use Rattle.rows.specs.Rows.{non-null};
+ghost use Rattle.accumulators.specs.Sql.{ahead, MIN-or-MAX};
 ghost use Rattle.accumulators.specs.Extremes.{better as better-key, extreme, extreme-state, key-or-0, one-or-0};
 use crate::accumulator::Accumulator;
-use crate::arguments::Arguments;
 use crate::capacity::ROWS;
 use crate::capacity::make_room;
-use crate::gather::Gather;
 use crate::refusals::Full;
 use crate::refusals::Short;
 use crate::state::write_numbers;
 use kinds::ordered::Ordered;
+use rows::arguments::Arguments;
+use rows::gather::Gather;
 use std::marker::PhantomData;
 
 /// The end of the order that an extreme looks for.

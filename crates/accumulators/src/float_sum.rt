@@ -11,15 +11,15 @@ ghost use Rattle.accumulators.specs.Figures.{most-rows, Within};
 ghost use Rattle.accumulators.specs.Sql.{FLOAT-SUM};
 ghost use Rattle.accumulators.specs.FloatSums.{float-sum};
 use crate::accumulator::Accumulator;
-use crate::arguments::Arguments;
 use crate::capacity::ROWS;
 use crate::capacity::make_room;
-use crate::gather::Gather;
 use crate::refusals::Full;
 use crate::refusals::Short;
 use crate::state::write_numbers;
 use kinds::float::FloatOrdered;
 use kinds::ordered::Ordered;
+use rows::arguments::Arguments;
+use rows::gather::Gather;
 
 /// A total that rounds after each value.
 #[derive(Clone, Copy)]

@@ -2,12 +2,10 @@
 
 pub mod accumulator;
 pub mod aggregate;
-pub mod arguments;
 pub mod capacity;
 pub mod count;
 pub mod extreme;
 pub mod float_sum;
-mod gather;
 pub mod refusals;
 mod ring;
 pub mod sliding_extreme;

@@ -1,4 +1,4 @@
-//! What accumulators and their arguments refuse, with the numbers.
+//! What accumulators refuse, with the numbers.
 
 use std::error::Error;
 use std::fmt;
@@ -16,13 +16,6 @@ pub struct Short {
     pub needed: usize,
 }
 
-/// The first column that differs in length from the arguments.
-#[derive(Clone, Copy, PartialEq, Eq, Debug)]
-pub enum Misfit {
-    Presence,
-    Mask,
-}
-
 pub impl fmt::Display for Full as FullDisplay {
     fn fmt<W: fmt::Write>(&self, f: &mut fmt::Formatter<W>) -> fmt::Result {
         let held = self.held;
@@ -38,17 +31,6 @@ pub impl fmt::Display for Short as ShortDisplay {
     }
 }
 
-pub impl fmt::Display for Misfit as MisfitDisplay {
-    fn fmt<W: fmt::Write>(&self, f: &mut fmt::Formatter<W>) -> fmt::Result {
-        match self {
-            Misfit::Presence => write!(f, "presence differs in length from the arguments"),
-            Misfit::Mask => write!(f, "the mask differs in length from the arguments"),
-        }
-    }
-}
-
 pub impl Error for Full as FullError {}
 
 pub impl Error for Short as ShortError {}
-
-pub impl Error for Misfit as MisfitError {}

@@ -12,14 +12,14 @@ ghost use Rattle.accumulators.specs.Sql.{SUM};
 ghost use Rattle.accumulators.specs.Sums.{sum, sum-retracted};
 use crate::accumulator::Accumulator;
 use crate::accumulator::Retract;
-use crate::arguments::Arguments;
 use crate::capacity::ROWS;
 use crate::capacity::make_room;
-use crate::gather::Gather;
 use crate::refusals::Full;
 use crate::refusals::Short;
 use crate::state::write_numbers;
 use kinds::whole::WholeOrdered;
+use rows::arguments::Arguments;
+use rows::gather::Gather;
 
 /// A total modulo 2^64.
 #[derive(Clone, Copy)]

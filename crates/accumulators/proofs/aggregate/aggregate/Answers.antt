@@ -1,6 +1,6 @@
 use mathlib.Core.Path.{_≡_, sym, ap, subst, _∙_}
 use Rattle.std.proofs.shelf.Results.{err-from-errBy}
-use Rattle.accumulators.specs.Batches.{batch}
+use Rattle.rows.specs.Batches.{batch}
 use Rattle.accumulators.proofs.Aggregates.{any-cut, whole, too-many}
 use Rattle.accumulators.proofs.aggregate.aggregate.Needs as need
 

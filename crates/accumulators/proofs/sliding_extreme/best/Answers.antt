@@ -3,7 +3,7 @@ use Prim.Native.Nat.{_≤_}
 use native.Mathlib.Omega.{arith}
 use lib.ListN.{length}
 use Rattle.std.proofs.shelf.Lists.{drop-all}
-use Rattle.accumulators.specs.Sql.{non-null}
+use Rattle.rows.specs.Rows.{non-null}
 use Rattle.accumulators.specs.Extremes.{best}
 use Rattle.accumulators.specs.Rings.{rows-in}
 use Rattle.accumulators.proofs.SlidingExtremes.{best-more}

@@ -1,7 +1,7 @@
 use mathlib.Core.Path.{_≡_}
 use lib.ListN.{drop}
 use Rattle.std.specs.declared.option.Option.the-variants.{None}
-use Rattle.accumulators.specs.Sql.{non-null}
+use Rattle.rows.specs.Rows.{non-null}
 use Rattle.accumulators.specs.Extremes.{best}
 use Rattle.accumulators.specs.Rings.{rows-in}
 use Rattle.accumulators.proofs.sliding_extreme.best.Given as given

@@ -2,7 +2,7 @@ use mathlib.Core.Path.{_≡_, ap, _∙_}
 use Prim.Native.Nat.{_≤_}
 use native.Mathlib.Omega.{arith}
 use lib.ListN.{length}
-use Rattle.accumulators.specs.Batches.{rows-of}
+use Rattle.rows.specs.Batches.{rows-of}
 use Rattle.accumulators.specs.Rings.{rows-in}
 use Rattle.accumulators.proofs.SlidingExtremes.{pushed-more, pushed-on, pushed-all}
 use Rattle.accumulators.proofs.sliding_extreme.push_all.Needs as need

@@ -1,4 +1,4 @@
-use Rattle.accumulators.specs.Batches.{rows-of}
+use Rattle.rows.specs.Batches.{rows-of}
 use Rattle.accumulators.specs.Rings.{rows-in}
 use Rattle.accumulators.proofs.SlidingExtremes.{Pushed}
 use Rattle.accumulators.proofs.sliding_extreme.push_all.Given as given

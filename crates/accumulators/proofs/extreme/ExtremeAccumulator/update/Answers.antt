@@ -2,8 +2,8 @@ use mathlib.Core.Path.{_≡_, sym, ap, _∙_}
 use mathlib.Core.List.{map}
 use Prim.Native.Nat.{_+_}
 use native.Mathlib.Omega.{arith}
-use Rattle.accumulators.specs.Batches.{batch}
-use Rattle.accumulators.specs.Sql.{non-null}
+use Rattle.rows.specs.Batches.{batch}
+use Rattle.rows.specs.Rows.{non-null}
 use Rattle.accumulators.specs.Extremes.{best, extreme-state}
 use Rattle.accumulators.proofs.Extremes.{gathered-best, held-best}
 use Rattle.accumulators.proofs.extreme.ExtremeAccumulator.update.Needs as need

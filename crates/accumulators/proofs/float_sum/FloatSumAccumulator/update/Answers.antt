@@ -7,8 +7,9 @@ use lib.Ieee.{Float, binary64, fits}
 use lib.ListN.{length}
 use Rattle.kinds.specs.Keys.{floatKey}
 use Rattle.kinds.proofs.FloatKeys.{float-back}
-use Rattle.accumulators.specs.Batches.{batch}
-use Rattle.accumulators.specs.Sql.{non-null, float-total}
+use Rattle.rows.specs.Batches.{batch}
+use Rattle.rows.specs.Rows.{non-null}
+use Rattle.accumulators.specs.Sql.{float-total}
 use Rattle.accumulators.proofs.FloatSums.{gathered-total, total-fits}
 use Rattle.accumulators.proofs.float_sum.FloatSumAccumulator.update.Needs as need
 

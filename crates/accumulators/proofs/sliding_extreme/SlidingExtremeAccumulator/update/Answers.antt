@@ -5,7 +5,7 @@ use native.Mathlib.Omega.{arith}
 use lib.ListN.{length, length-append}
 use Rattle.std.specs.Options.{mapped}
 use Rattle.std.proofs.shelf.Lists.{length-map}
-use Rattle.accumulators.specs.Batches.{batch}
+use Rattle.rows.specs.Batches.{batch}
 use Rattle.accumulators.specs.Rings.{rows-in}
 use Rattle.accumulators.specs.SlidingExtremes.{pairs}
 use Rattle.accumulators.proofs.SlidingExtremes.{pairs-++}

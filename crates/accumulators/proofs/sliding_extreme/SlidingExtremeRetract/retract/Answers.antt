@@ -1,5 +1,5 @@
 use Rattle.accumulators.specs.Rings.{rows-in}
-use Rattle.accumulators.specs.Batches.{batch}
+use Rattle.rows.specs.Batches.{batch}
 use Rattle.accumulators.proofs.SlidingExtremes.{dropped}
 use Rattle.accumulators.proofs.sliding_extreme.SlidingExtremeRetract.retract.Needs as need
 

@@ -5,8 +5,8 @@ use native.Mathlib.Omega.{arith}
 use borrow.Author.Needs.{needs}
 use mir.Syntax.{w64}
 use mir.Val.{SFits, ofZ}
-use Rattle.accumulators.specs.Batches.{batch}
-use Rattle.accumulators.specs.Sql.{non-null}
+use Rattle.rows.specs.Batches.{batch}
+use Rattle.rows.specs.Rows.{non-null}
 use Rattle.accumulators.proofs.Sums.{total-added}
 use Rattle.accumulators.proofs.sum.SumAccumulator.update.Needs as need
 

@@ -7,8 +7,8 @@ use borrow.Author.Tests.{lt-ltb, le-ltb}
 use lib.ListN.{length}
 use mir.Syntax.{w64}
 use mir.Val.{SFits, ofZ}
-use Rattle.accumulators.specs.Batches.{batch}
-use Rattle.accumulators.specs.Sql.{non-null}
+use Rattle.rows.specs.Batches.{batch}
+use Rattle.rows.specs.Rows.{non-null}
 use Rattle.accumulators.proofs.Sums.{bits-0, total-taken}
 use Rattle.accumulators.proofs.sum.SumRetract.retract.Needs as need
 
