@@ -8,7 +8,7 @@ use Rattle.std.specs.Iters.{folded}
 use Rattle.std.specs.declared.option.Option.{Option}
 use Rattle.std.specs.declared.result.Result.{Result}
 use Rattle.std.specs.declared.result.Result.the-variants.{Ok, Err}
-use Rattle.accumulators.specs.Figures.{Figure, Lawful, Each, rows-held}
+use Rattle.accumulators.specs.Figures.{Figure, Lawful, Retracting, Each, rows-held}
 use Rattle.accumulators.specs.Calls.{Any-cut, Aggregates, joined}
 use Rattle.accumulators.specs.declared.refusals.Full.{Full}
 
@@ -39,3 +39,13 @@ module _ {V Answer : Type 0} (F : Figure V Answer) (Stands : List ℕ → List (
 
     pub too-many : (e : Full) → F .capacity < rows-held s + length xs → e .held ≡ rows-held s → e .offered ≡ length xs → (F .capacity < length xs) × (e .held ≡ 0) × (e .offered ≡ length xs)
     too-many e h p q = let z = empty in (omega arith, p ∙ z, q)
+
+-- one batch in, and the oldest rows out
+module _ {V Answer : Type 0} (F : Figure V Answer) (Stands : List ℕ → List (Option V) → Type 0) (laws : Lawful F Stands) (retracted : List ℕ → List (Option V) → List ℕ) (back : Retracting F Stands retracted) where
+  pub slid : (s s′ : List ℕ) (ys zs : List (Option V)) (r : Option Answer) → rows-held s + length ys ≤ F .capacity → s′ ≡ retracted (F .updated s ys) zs → r ≡ F .answered s′
+      → (xs rest : List (Option V)) → Stands s xs → xs ++ ys ≡ zs ++ rest → Stands s′ rest × (r ≡ F .answer rest)
+  slid s s′ ys zs r h e is xs rest st same =
+      let n = laws .holds s xs st in
+      let grown = subst (Stands (F .updated s ys)) same (laws .grows s xs ys st (omega arith)) in
+      let left : Stands s′ rest = subst (λ (z : List ℕ). Stands z rest) (sym e) (back .shrinks (F .updated s ys) zs rest grown) in
+      (left, is ∙ laws .answers s′ rest left)

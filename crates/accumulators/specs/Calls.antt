@@ -39,3 +39,13 @@ joined (b ∷ bs) = b ++ joined bs
 abbrev pub Any-cut : {V Answer : Type 0} → Figure V Answer → Type 0
 Any-cut {V} F = (batches : List (List (Option V))) → length (joined batches) ≤ F .capacity
     → F .answered (folded (F .updated) (F .state []) batches) ≡ F .answer (joined batches)
+
+-- one batch in and one out: by the numbers, and over the lists that they stand for
+abbrev pub Slides : {V Answer A : Type 0} → Figure V Answer → (List ℕ → List (Option V) → Type 0) → (List ℕ → List (Option V) → List ℕ) → (A → List ℕ) → A → A → List (Option V) → List (Option V) → Result (Option Answer) Full → Type 0
+Slides {V} F Stands retracted numbers a a′ entering leaving (Ok r) =
+    (rows-held (numbers a) + length entering ≤ F .capacity)
+    × (numbers a′ ≡ retracted (F .updated (numbers a) entering) leaving)
+    × (r ≡ F .answered (numbers a′))
+    × ((held rest : List (Option V)) → Stands (numbers a) held → held ++ entering ≡ leaving ++ rest → Stands (numbers a′) rest × (r ≡ F .answer rest))
+Slides F Stands retracted numbers a a′ entering leaving (Err e) =
+    (F .capacity < rows-held (numbers a) + length entering) × (a′ ≡ a) × (e .held ≡ rows-held (numbers a)) × (e .offered ≡ length entering)

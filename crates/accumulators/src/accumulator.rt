@@ -13,8 +13,9 @@ use crate::refusals::Short;
 use kinds::ordered::Ordered;
 use rows::arguments::Arguments;
 
-/// A running figure over the rows put into it. Its numbers, the state, decide what every call
-/// answers and leaves, whether or not they stand for a list.
+/// A running figure over a list of optional values. Its numbers, the state, decide what every call
+/// answers and leaves, whether or not they stand for a list; the law `lawful` says what the calls do to
+/// the list where they do.
 pub trait Accumulator: Sized + Drop {
     type Value: Ordered;
 

@@ -3,8 +3,9 @@
 ghost use mathlib.Core.Path.{_≡_};
 ghost use mathlib.Core.List.{[]};
 ghost use Rattle.rows.specs.Batches.{batch};
-ghost use Rattle.accumulators.specs.Calls.{Aggregates, Any-cut};
+ghost use Rattle.accumulators.specs.Calls.{Aggregates, Any-cut, Slides};
 use crate::accumulator::Accumulator;
+use crate::accumulator::Retract;
 use crate::refusals::Full;
 use rows::arguments::Arguments;
 
@@ -23,5 +24,19 @@ pub fn aggregate<A: Accumulator>(rows: &Arguments<A::Value>) -> Result<Option<A:
 {
     let mut accumulator = A::new();
     accumulator.update(rows)?;
+    Ok(accumulator.evaluate())
+}
+
+/// Takes a batch in, drops another, which is the oldest part of what is held then, and answers over the
+/// rest. Where the batch is refused, nothing is dropped either.
+pub fn slide<A: Retract>(
+    accumulator: &mut A,
+    entering: &Arguments<A::Value>,
+    leaving: &Arguments<A::Value>,
+) -> Result<Option<A::Answer>, Full>
+    ensures { λ r. ⌜ Slides (A·Accumulator .figure) (A·Accumulator .stands) (A·Retract .retracted) (A·Accumulator .numbers) (now (accumulator .entry)) (now (accumulator .exit)) (batch (now (entering .entry))) (batch (now (leaving .entry))) r ⌝ }
+{
+    accumulator.update(entering)?;
+    accumulator.retract(leaving);
     Ok(accumulator.evaluate())
 }
