@@ -1,15 +1,13 @@
 -- Whole groups, whatever the accumulator: from its laws alone. Assumes nothing.
-use mathlib.Core.Path.{_≡_, refl, sym, ap, subst, _∙_}
+use mathlib.Core.Path.{_≡_, sym, ap, subst, _∙_}
 use mathlib.Core.List.{List, [], _∷_, _++_, append-assoc, append-nil}
 use Prim.Native.Nat.{ℕ, _+_, _≤_, _<_}
 use native.Mathlib.Omega.{arith}
 use lib.ListN.{length, length-append}
 use Rattle.std.specs.Iters.{folded}
 use Rattle.std.specs.declared.option.Option.{Option}
-use Rattle.std.specs.declared.result.Result.{Result}
-use Rattle.std.specs.declared.result.Result.the-variants.{Ok, Err}
-use Rattle.accumulators.specs.Figures.{Figure, Lawful, Retracting, Each, rows-held}
-use Rattle.accumulators.specs.Calls.{Any-cut, Aggregates, joined}
+use Rattle.accumulators.specs.Figures.{Figure, Lawful, Retracting, rows-held}
+use Rattle.accumulators.specs.Calls.{Any-cut, joined}
 use Rattle.accumulators.specs.declared.refusals.Full.{Full}
 
 module _ {V Answer : Type 0} (F : Figure V Answer) (Stands : List ℕ → List (Option V) → Type 0) (laws : Lawful F Stands) where

@@ -1,15 +1,15 @@
 -- COUNT keeps the laws. Assumes nothing.
-use mathlib.Core.Path.{_≡_, refl, sym, ap, _∙_}
-use mathlib.Core.Bool.{true, false, cond}
+use mathlib.Core.Path.{_≡_, refl, sym}
+use mathlib.Core.Bool.{false}
 use mathlib.Core.List.{List, [], _∷_, _++_}
-use Prim.Native.Nat.{ℕ, _+_, _-_, _%_, _^_, _≤_, _<_}
+use Prim.Native.Nat.{_+_, _-_, _%_, _^_, _≤_}
 use native.Mathlib.Omega.{arith}
 use borrow.Author.Tests.{lt-ltb, le-ltb}
 use lib.Dec.{ltb}
 use lib.ListN.{length, length-append}
 use Rattle.std.specs.declared.option.Option.{Option}
 use Rattle.rows.specs.Rows.{non-null}
-use Rattle.accumulators.specs.Figures.{most-rows, Lawful, Retracting, Within, rows-held, present-held}
+use Rattle.accumulators.specs.Figures.{most-rows, Lawful, Retracting, Within, rows-held}
 use Rattle.accumulators.specs.Counts.{count, count-retracted}
 use Rattle.rows.proofs.Lists.{present-few}
 use Rattle.accumulators.proofs.Lists.{present-++}

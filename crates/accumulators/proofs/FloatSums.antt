@@ -1,9 +1,8 @@
 -- SUM of floats keeps the laws. Assumes nothing.
 use mathlib.Core.Path.{_≡_, refl, sym, ap, _∙_}
-use mathlib.Core.Bool.{Bool, true, false}
+use mathlib.Core.Bool.{false}
 use mathlib.Core.List.{List, [], _∷_, _++_}
-use Prim.Native.Nat.{ℕ, zero, suc, _+_, _≤_, _<_}
-use native.Mathlib.Omega.{arith}
+use Prim.Native.Nat.{ℕ, zero, suc, _+_}
 use lib.Dec.{T}
 use lib.ListN.{length}
 use lib.IntN.{pos}
@@ -11,11 +10,11 @@ use lib.Ieee.{Float, fin, binary64, add, fits, ofBits}
 use lib.Ieee.Fits.{add-fits}
 use Rattle.std.specs.Iters.{folded}
 use Rattle.std.specs.declared.option.Option.{Option}
-use Rattle.std.specs.declared.option.Option.the-variants.{Some, None}
+use Rattle.std.specs.declared.option.Option.the-variants.{Some}
 use Rattle.kinds.specs.Keys.{floatKey, floatAt}
 use Rattle.kinds.proofs.FloatKeys.{float-back}
 use Rattle.rows.specs.Rows.{non-null}
-use Rattle.accumulators.specs.Sql.{null-if-none, float-total}
+use Rattle.accumulators.specs.Sql.{float-total}
 use Rattle.accumulators.specs.Figures.{Lawful, Within, missing-at-0}
 use Rattle.accumulators.specs.FloatSums.{float-sum}
 use Rattle.accumulators.specs.declared.float_sum.Total.{Total}

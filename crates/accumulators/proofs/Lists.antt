@@ -1,12 +1,10 @@
 -- Lists of optional values. Assumes nothing.
-use mathlib.Core.Path.{_≡_, refl, sym, ap, _∙_}
+use mathlib.Core.Path.{_≡_, refl, ap, _∙_}
 use mathlib.Core.List.{List, [], _∷_, _++_}
-use Prim.Native.Nat.{ℕ, zero, suc, _+_, _≤_, _<_}
-use native.Mathlib.Omega.{arith}
-use lib.ListN.{length, drop, length-append}
+use Prim.Native.Nat.{_+_}
+use lib.ListN.{length, length-append}
 use Rattle.std.specs.declared.option.Option.{Option}
 use Rattle.std.specs.declared.option.Option.the-variants.{Some, None}
-use Rattle.std.specs.Iters.{folded}
 use Rattle.std.specs.shelf.Lists.{All}
 use Rattle.rows.specs.Rows.{non-null}
 use Rattle.rows.proofs.Lists.{non-null-++}

@@ -1,13 +1,12 @@
 -- The sliding extremes keep the laws. Assumes nothing.
 use mathlib.Core.Path.{_≡_, refl, sym, ap, _∙_}
-use mathlib.Core.Bool.{Bool, true, false, cond}
+use mathlib.Core.Bool.{Bool}
 use mathlib.Core.List.{List, [], _∷_, _++_, map, append-assoc, append-nil}
 use mathlib.Core.Logic.{inl, inr}
 use Prim.Native.Nat.{ℕ, zero, suc, _+_, _-_, _*_, _≤_, _<_}
 use native.Mathlib.Omega.{arith}
 use native.Mathlib.Numerals.{add-one}
 use borrow.Author.Tests.{lt-ltb, le-ltb}
-use lib.Dec.{ltb}
 use lib.ListN.{length, set, take, drop, length-append}
 use Rattle.std.specs.Options.{mapped}
 use Rattle.std.specs.declared.option.Option.{Option}
@@ -18,7 +17,8 @@ use Rattle.rows.specs.Rows.{Row, kept}
 use Rattle.rows.specs.Rows.{non-null}
 use Rattle.accumulators.specs.Figures.{most-kept, Lawful, Retracting, Within, rows-held}
 use Rattle.accumulators.specs.Extremes.{best, one-or-0, key-or-0}
-use Rattle.accumulators.specs.SlidingExtremes.{sliding-extreme, oldest-dropped, pairs, put-pair, keys-in}
+use Rattle.accumulators.specs.SlidingExtremes.{sliding-extreme, oldest-dropped, pairs, keys-in}
+use Rattle.accumulators.specs.Rings.{put-pair}
 use Rattle.accumulators.proofs.Laws.{lawful-within, retracting-within}
 use Rattle.accumulators.proofs.Counts.{rows-more, rows-less, enough}
 

@@ -1,13 +1,11 @@
 -- SUM keeps the laws. Assumes nothing.
 use mathlib.Core.Path.{_≡_, refl, sym, ap, _∙_}
-use mathlib.Core.Bool.{true, false, cond}
 use mathlib.Core.List.{List, [], _∷_, _++_}
-use Prim.Native.Nat.{ℕ, zero, suc, _+_, _-_, _*_, _%_, _^_, _≤_, _<_}
+use Prim.Native.Nat.{_+_, _-_, _*_, _%_, _^_, _≤_}
 use native.Mathlib.Omega.{arith}
 use borrow.Author.Differences.{ints}
 use borrow.Author.Tests.{lt-ltb}
-use lib.Dec.{ltb}
-use lib.ListN.{length, length-append}
+use lib.ListN.{length}
 use lib.IntN.{ℤ, pos, negsuc, _+ℤ_, _-ℤ_, negℤ}
 use mir.Syntax.{w32, w64}
 use lib.Signed.{mag}
@@ -20,10 +18,10 @@ use Rattle.std.proofs.shelf.Signed.{toZ-ofZ, sfits-wrapped, wrapped-fits, wrapp
 use Rattle.std.proofs.shelf.Ways.{tells}
 use Rattle.rows.specs.Rows.{non-null}
 use Rattle.accumulators.specs.Sql.{null-if-none, total, SUM}
-use Rattle.accumulators.specs.Figures.{most-rows, Lawful, Retracting, Within, Each, rows-held, present-held, third-held, missing-at-0}
+use Rattle.accumulators.specs.Figures.{most-rows, Lawful, Retracting, Within, Each, rows-held, missing-at-0}
 use Rattle.accumulators.specs.Sums.{sum, sum-retracted, bits}
 use Rattle.accumulators.specs.declared.sum.Total.{Total}
-use Rattle.rows.proofs.Lists.{non-null-++, present-few}
+use Rattle.rows.proofs.Lists.{non-null-++}
 use Rattle.accumulators.proofs.Lists.{null-is}
 use Rattle.accumulators.proofs.Laws.{lawful-within, retracting-within}
 use Rattle.accumulators.proofs.Counts.{rows-more, present-more, rows-less, present-less, enough}

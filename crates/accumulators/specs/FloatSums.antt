@@ -1,11 +1,10 @@
 -- SUM of floats: rows, those not missing, and the key of the total. Assumes nothing.
-use mathlib.Core.List.{List, [], _∷_}
+use mathlib.Core.List.{[], _∷_}
 use mathlib.Core.Bool.{false}
-use Prim.Native.Nat.{ℕ, _+_, _%_, _^_}
+use Prim.Native.Nat.{_+_, _%_, _^_}
 use lib.ListN.{length}
 use lib.IntN.{pos}
 use lib.Ieee.{Float, fin}
-use Rattle.std.specs.declared.option.Option.{Option}
 use Rattle.kinds.specs.Keys.{floatKey, floatAt}
 use Rattle.rows.specs.Rows.{non-null}
 use Rattle.accumulators.specs.Sql.{float-total, FLOAT-SUM}

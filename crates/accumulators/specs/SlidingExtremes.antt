@@ -1,12 +1,12 @@
 -- MIN and MAX over rows that are kept: rows, then presence and key of each, oldest first. Assumes nothing.
 use mathlib.Core.Bool.{Bool, cond}
 use mathlib.Core.List.{List, [], _∷_, _++_, map}
-use Prim.Native.Nat.{ℕ, zero, suc, _+_, _-_, _*_, _%_}
+use Prim.Native.Nat.{ℕ, zero, suc, _+_, _-_, _*_}
 use lib.Dec.{ltb}
-use lib.ListN.{length, getD, set, drop}
+use lib.ListN.{length, drop}
 use Rattle.std.specs.Options.{mapped}
 use Rattle.std.specs.declared.option.Option.{Option}
-use Rattle.std.specs.declared.option.Option.the-variants.{Some, None}
+use Rattle.std.specs.declared.option.Option.the-variants.{None}
 use Rattle.rows.specs.Rows.{non-null}
 use Rattle.accumulators.specs.Figures.{Figure, most-kept, rows-held}
 use Rattle.accumulators.specs.Extremes.{best, one-or-0, key-or-0}
@@ -15,10 +15,6 @@ use Rattle.accumulators.specs.Extremes.{best, one-or-0, key-or-0}
 abbrev pub pairs : List (Option ℕ) → List ℕ
 pairs [] = []
 pairs (k ∷ ks) = one-or-0 k ∷ key-or-0 k ∷ pairs ks
-
--- one row's pair, written to two places
-abbrev pub put-pair : List ℕ → ℕ → Option ℕ → List ℕ
-put-pair out place k = set (set out place (one-or-0 k)) (suc place) (key-or-0 k)
 
 -- the keys of the rows that are present
 abbrev pub keys-in : List ℕ → List ℕ
@@ -39,8 +35,3 @@ sliding-extreme greatest keyed valued = record {
 -- as many of the oldest rows go
 abbrev pub oldest-dropped : {V : Type 0} → List ℕ → List (Option V) → List ℕ
 oldest-dropped s ys = cond (ltb (rows-held s) (length ys)) (0 ∷ []) ((rows-held s - length ys) ∷ drop (2 * length ys) (drop 1 s))
-
--- what a ring holds: n rows from place p on
-abbrev pub ring-rows : List (Option ℕ) → ℕ → ℕ → List (Option ℕ)
-ring-rows ring p zero = []
-ring-rows ring p (suc n) = getD ring (p % most-kept) None ∷ ring-rows ring (suc p) n

@@ -1,9 +1,9 @@
 -- Floats order as their keys. Assumes nothing.
 use mathlib.Core.Path.{_≡_, refl, sym, ap, _∙_, subst}
-use mathlib.Core.Logic.{_⊎_, inl, inr}
+use mathlib.Core.Logic.{inl, inr}
 use mathlib.Core.Bool.{Bool, true, false, not, _&&_, _||_, cond}
 use Prim.Native.Nat.{ℕ, zero, suc, _+_, _-_, _*_, _/_, _%_, _^_, _≤_, _<_}
-use native.Mathlib.Nat.{zero-mul, mul-le-mul-left, mul-le-mul-right, le-of-mul-le-mul-right, le-trans, eq-or-lt-of-le, mul-lt-mul-of-pos-right, lt-of-lt-of-le, lt-of-not-le}
+use native.Mathlib.Nat.{zero-mul, mul-le-mul-left, mul-le-mul-right, le-of-mul-le-mul-right, eq-or-lt-of-le, mul-lt-mul-of-pos-right, lt-of-not-le}
 use native.Mathlib.Omega.{arith}
 use borrow.Author.Tests.{lt-ltb, le-ltb, ne-eqb}
 use lib.IntN.{ℤ}

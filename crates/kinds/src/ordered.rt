@@ -24,8 +24,9 @@ pub trait Ordered: Copy {
 
     law ordered: { (v w : Self) → fits v → fits w → before v w ≡ ltb (keyed v) (keyed w) };
 
-    // Only one theorem rests on this law: that least and greatest answer a value of their list
-    // (crate accumulators). Keys, frames and states need no more than `ordered`.
+    // Two theorems rest on this law (crate accumulators): that least and greatest answer a value of
+    // their list, and that a sum of floats comes back from the key in its state. Order, frames and the
+    // states themselves need no more than `ordered`.
     law restored: { (v : Self) → fits v → valued (keyed v) ≡ v };
 
     fn key(self) -> u64

@@ -1,7 +1,7 @@
 -- Lists of rows, column by column. Assumes nothing.
 use mathlib.Core.Path.{_≡_, refl, sym, ap, _∙_, subst}
-use mathlib.Core.Bool.{Bool, true, false, cond, not}
-use mathlib.Core.List.{List, [], _∷_, _++_}
+use mathlib.Core.Bool.{not}
+use mathlib.Core.List.{List, [], _∷_}
 use Prim.Native.Nat.{ℕ, zero, suc, _+_, _-_, _≤_, _<_, min}
 use native.Mathlib.Omega.{arith}
 use native.Mathlib.Nat.{le-trans}
@@ -13,7 +13,7 @@ use lib.ListN.{length, getD, take, drop, replicate}
 use borrow.Author.Tests.{eq-eqb, ne-eqb}
 use Rattle.std.specs.declared.option.Option.{Option}
 use Rattle.std.specs.declared.option.Option.the-variants.{Some, None}
-use Rattle.rows.specs.Rows.{Row, rows, optional, mask-bytes, kept}
+use Rattle.rows.specs.Rows.{rows, optional, mask-bytes, kept}
 use Rattle.rows.specs.Batches.{rows-of}
 use Rattle.rows.specs.declared.arguments.Arguments.{Arguments}
 use denote.Ref.{RefT, now}

@@ -1,4 +1,4 @@
-use mathlib.Core.Path.{_≡_, ap, _∙_}
+use mathlib.Core.Path.{ap, _∙_}
 use Rattle.rows.specs.Batches.{batch}
 use Rattle.accumulators.proofs.Aggregates.{slid}
 use Rattle.accumulators.proofs.aggregate.slide.Needs as need

@@ -1,9 +1,9 @@
-use mathlib.Core.Path.{_≡_, sym, ap, _∙_, subst}
+use mathlib.Core.Path.{_∙_}
 use Prim.Native.Nat.{_+_, _*_, _≤_, _<_}
 use native.Mathlib.Omega.{arith}
 use lib.ListN.{length, set, length-set}
 use Rattle.accumulators.specs.Rings.{rows-in}
-use Rattle.accumulators.proofs.SlidingExtremes.{Written, written-more, written-all, pairs-length}
+use Rattle.accumulators.proofs.SlidingExtremes.{written-more, written-all, pairs-length}
 use Rattle.accumulators.proofs.sliding_extreme.SlidingExtremeAccumulator.state.Needs as need
 
 pub put-pair-requires : need.put-pair-requires

@@ -1,4 +1,4 @@
-use mathlib.Core.Path.{_≡_, ap, sym, _∙_}
+use mathlib.Core.Path.{ap, _∙_}
 use mathlib.Core.List.{_∷_, []}
 use Prim.Native.Nat.{_-_, _<_, _≤_}
 use native.Mathlib.Omega.{arith}
@@ -6,7 +6,7 @@ use borrow.Author.Needs.{needs}
 use borrow.Author.Tests.{lt-ltb, le-ltb}
 use lib.ListN.{length}
 use mir.Syntax.{w64}
-use mir.Val.{SFits, ofZ}
+use mir.Val.{SFits}
 use Rattle.rows.specs.Batches.{batch}
 use Rattle.rows.specs.Rows.{non-null}
 use Rattle.accumulators.proofs.Sums.{bits-0, total-taken}

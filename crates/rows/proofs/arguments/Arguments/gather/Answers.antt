@@ -1,11 +1,8 @@
-use mathlib.Core.Path.{_≡_, refl, sym, ap, _∙_, subst}
-use Prim.Native.Nat.{_+_, _≤_}
+use mathlib.Core.Path.{refl, _∙_}
 use native.Mathlib.Omega.{arith}
-use lib.ListN.{length}
-use Rattle.std.specs.declared.option.Option.{Option}
 use Rattle.rows.specs.Batches.{rows-of, batch}
 use Rattle.rows.proofs.Lists.{present-few}
-use Rattle.rows.proofs.Gathers.{So-far, value-more, missing-more, left-out-more, all-gathered}
+use Rattle.rows.proofs.Gathers.{value-more, missing-more, left-out-more, all-gathered}
 use Rattle.rows.proofs.arguments.Arguments.gather.Needs as need
 use Rattle.rows.proofs.arguments.Arguments.gather.Needs.{in-Some·in-Some-argument, in-Some·in-rest-argument, in-rest}
 

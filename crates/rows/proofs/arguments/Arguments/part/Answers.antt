@@ -1,11 +1,10 @@
-use mathlib.Core.Path.{_≡_, sym, ap, _∙_}
-use Prim.Native.Nat.{_-_, _≤_, min}
+use mathlib.Core.Path.{_≡_, ap, _∙_}
+use Prim.Native.Nat.{_-_, min}
 use native.Mathlib.Omega.{arith}
 use lib.ListN.{length, take, drop}
 use Rattle.std.proofs.shelf.Lists.{length-take, length-drop}
 use Rattle.rows.specs.Rows.{mask-bytes, rows}
-use Rattle.rows.specs.Batches.{rows-of}
-use Rattle.rows.proofs.RowLists.{mask-long, part-length, rows-part, clipped, rows-length}
+use Rattle.rows.proofs.RowLists.{mask-long, part-length, rows-part, clipped}
 use Rattle.rows.proofs.arguments.Arguments.part.Needs as need
 
 pub mask-part-requires : need.mask-part-requires
