@@ -1,4 +1,5 @@
--- What an accumulator is: a rule over the numbers of its state, and their meaning over a list of optional values. Assumes nothing.
+-- What an accumulator is: a rule over the numbers of its state, and their meaning over a list of optional values
+-- (docs/RULES.md, section 4.1). Assumes nothing.
 use mathlib.Core.Path.{_≡_}
 use mathlib.Core.List.{List, [], _∷_, _++_}
 use Prim.Native.Nat.{ℕ, zero, suc, _+_, _≤_, _<_}

@@ -1,4 +1,5 @@
--- Set functions over the values of a group, as ISO/IEC 9075-2:2003 has them: null values are eliminated first. Assumes nothing.
+-- Set functions over the values of a group, as ISO/IEC 9075-2:2003 has them: null values are eliminated first
+-- (docs/RULES.md, section 4.2). Assumes nothing.
 use mathlib.Core.Path.{_≡_}
 use mathlib.Core.Bool.{Bool, true, false}
 use mathlib.Core.List.{List, [], _∷_}

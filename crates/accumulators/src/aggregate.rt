@@ -22,9 +22,9 @@ pub fn aggregate<A: Accumulator>(rows: &Arguments<A::Value>) -> Result<Option<A:
     ensures value { λ r. ⌜ Aggregates (A·Accumulator .figure) (Value·Ordered .fits) (A·Accumulator .standard) (batch (now (rows .entry))) r ⌝ }
     ensures cut { λ _. ⌜ Any-cut (A·Accumulator .figure) ⌝ }
 {
-    let mut accumulator = A::new();
-    accumulator.update(rows)?;
-    Ok(accumulator.evaluate())
+    let mut group = A::new();
+    group.update(rows)?;
+    Ok(group.evaluate())
 }
 
 /// Takes a batch in, drops another, which is the oldest part of what is held then, and answers over the

@@ -22,6 +22,7 @@ use std::marker::PhantomData;
 /// How many numbers the state has.
 const NUMBERS: usize = 2;
 
+/// How many of the rows put in are not missing.
 #[derive(Drop)]
 pub struct Count<V> {
     rows: usize,

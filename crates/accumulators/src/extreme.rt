@@ -88,6 +88,7 @@ impl<V: Ordered, D: Direction> Gather<V> for Best<D> as BestGather {
 /// How many numbers the state has.
 const NUMBERS: usize = 3;
 
+/// The least or greatest of the values put in, by its key.
 #[derive(Drop)]
 pub struct Extreme<V, D> {
     rows: usize,

@@ -38,6 +38,7 @@ impl Gather<f64> for Total as TotalGather {
 /// How many numbers the state has.
 const NUMBERS: usize = 3;
 
+/// The sum of the floats put in.
 #[derive(Drop)]
 pub struct FloatSum {
     rows: usize,

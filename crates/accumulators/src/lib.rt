@@ -1,4 +1,5 @@
-//! Accumulators: running figures over the optional values of the rows that they were given.
+//! Accumulators: running figures over the optional values of the rows that they were given
+//! (docs/RULES.md, section 4).
 
 pub mod accumulator;
 pub mod aggregate;

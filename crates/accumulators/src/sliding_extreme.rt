@@ -29,6 +29,7 @@ use rows::gather::Nothing;
 use rows::gather::NothingGather;
 use std::marker::PhantomData;
 
+/// The least or greatest of the values that are still held.
 #[derive(Drop)]
 pub struct SlidingExtreme<V, D> {
     ring: Ring,
@@ -96,7 +97,7 @@ pub impl<V: Ordered, D: Direction> Accumulator for SlidingExtreme<
 
     fn update(&mut self, rows: &Arguments<V>) -> Result<(), Full> {
         let offered = rows.gather(&mut Nothing).rows;
-        let _ = make_room(self.ring.len(), offered, KEPT)?;
+        make_room(self.ring.len(), offered, KEPT)?;
         push_all(&mut self.ring, rows);
         Ok(())
     }

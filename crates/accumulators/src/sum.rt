@@ -38,6 +38,7 @@ impl Gather<i32> for Total as TotalGather {
 /// How many numbers the state has.
 const NUMBERS: usize = 3;
 
+/// The sum of the wholes put in.
 #[derive(Drop)]
 pub struct Sum {
     rows: usize,

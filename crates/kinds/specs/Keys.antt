@@ -1,4 +1,4 @@
--- The key of a value of each kind, and the value at a key. Assumes nothing.
+-- The key of a value of each kind, and the value at a key (docs/RULES.md, section 3). Assumes nothing.
 use mathlib.Core.Bool.{Bool, false, cond, not, _&&_, _||_}
 use Prim.Native.Nat.{ℕ, suc, _+_, _-_, _^_, min}
 use mathlib.Core.Path.{_≡_}
