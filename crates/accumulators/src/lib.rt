@@ -1,6 +1,8 @@
 //! Accumulators: running figures over the optional values of the rows that they were given
 //! (docs/RULES.md, section 4).
 
+#![tactic(auto)]
+
 pub mod accumulator;
 pub mod aggregate;
 pub mod capacity;

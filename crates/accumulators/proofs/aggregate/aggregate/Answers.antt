@@ -4,14 +4,14 @@ use Rattle.rows.specs.Batches.{batch}
 use Rattle.accumulators.proofs.Aggregates.{any_cut, whole, too_many}
 use Rattle.accumulators.proofs.aggregate.aggregate.Goals as goal
 
-pub returns-in-err-update : goal.returns-in-err-update
-returns-in-err-update g c =
+pub returns-in_err-update : goal.returns-in_err-update
+returns-in_err-update g c =
     let F = g.A.Accumulator.figure in
     let laws = g.met.A.Accumulator.lawful in
     let numbers = g.A.Accumulator.numbers in
     let xs = batch c.args.rows.now in
-    let told = c.in-err-update.ensures in
-    let p = err_from_is_err_and c.from-residual.result c.from-residual.ensures.1 in
+    let told = c.in_err-update.ensures in
+    let p = err_from_is_err_and c.from_residual.result c.from_residual.ensures.1 in
     record {
       value = rw (p.1, p.2) (too_many F g.A.Accumulator.stands laws (numbers c.new-group.result) xs c.new-group.ensures _ told.0 told.2 told.3);
       cut = any_cut F g.A.Accumulator.stands laws;
@@ -23,7 +23,7 @@ returns g c =
     let numbers = g.A.Accumulator.numbers in
     let laws = g.met.A.Accumulator.lawful in
     let xs = batch c.args.rows.now in
-    let told = c.in-ok-update.ensures in
+    let told = c.in_ok-update.ensures in
     let w = whole F g.A.Accumulator.stands laws (numbers c.new-group.result) xs c.new-group.ensures told.0 in
     let is = c.evaluate.ensures ∙ ap F.answered told.1 ∙ w.1 in
     record {

@@ -8,7 +8,7 @@ returns g c =
     let a = g.A.Accumulator in
     let ys = batch c.args.entering.now in
     let zs = batch c.args.leaving.now in
-    let told = c.in-ok-update.ensures in
+    let told = c.in_ok-update.ensures in
     let after = c.retract.ensures ∙ ap (λ s. g.A.Retract.retracted s zs) told.1 in
     let is = c.evaluate.ensures in (
       told.0,

@@ -5,14 +5,14 @@ use Rattle.accumulators.specs.Extremes.{best}
 use Rattle.accumulators.specs.Rings.{rows_in}
 use Rattle.accumulators.specs.SlidingExtremesLemmas.{best_more}
 use Rattle.accumulators.proofs.sliding_extreme.best.Goals as goal
-use Rattle.accumulators.proofs.sliding_extreme.best.Goals.{in-Some, in-default}
+use Rattle.accumulators.proofs.sliding_extreme.best.Goals.{in-Some, in_default}
 
 pub loop-i-preserved : goal.loop-i-preserved
 loop-i-preserved g c =
     let ks = rows_in c.args.ring.now in
     elim c.match-row.branch [
       | in-Some w ↦ best_more g.D.Direction.greatest ks c.loop-i.i c.loop-i.best c.match-row.best _ _ w.in-Some.ensures c.loop-i.invariant (w.best-is ∙ w.better-best.ensures)
-      | in-default w ↦ best_more g.D.Direction.greatest ks c.loop-i.i c.loop-i.best c.match-row.best _ _ w.in-default.ensures c.loop-i.invariant w.best-is
+      | in_default w ↦ best_more g.D.Direction.greatest ks c.loop-i.i c.loop-i.best c.match-row.best _ _ w.in_default.ensures c.loop-i.invariant w.best-is
     ]
 
 pub returns : goal.returns

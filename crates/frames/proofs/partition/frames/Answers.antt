@@ -10,8 +10,8 @@ loop-row-preserved g c =
     let R = g.R.FrameRule.rule c.args.rule.now in
     let P = column c.args.order.now in
     let i = c.loop-row.row in
-    let at = c.calculate-range-last.ensures ∙ ap (R.frame P i) c.loop-row.invariant.0 in
-    let rests = c.must-wait.ensures ∙ ap (waits R P c.args.newest i) at in (
+    let at = c.calculate_range-last.ensures ∙ ap (R.frame P i) c.loop-row.invariant.0 in
+    let rests = c.must_wait.ensures ∙ ap (waits R P c.args.newest i) at in (
       at ∙ ap (previous R P) (sym (add-one i)),
       written_more R P c.args.newest i c.args.out.now c.loop-row.out _ (omega arith) (λ j. record { range = at j; is_complete = not (rests j) }) c.loop-row.invariant.1,
     )

@@ -5,12 +5,12 @@ use Rattle.ranges.specs.Aims.{end_missing}
 use Rattle.frames.proofs.Columns.{value_absent, absent_length}
 use Rattle.ranges.proofs.range.end_of.Goals as goal
 
-pub returns-in-default : goal.returns-in-default
-returns-in-default g c =
+pub returns-in_default : goal.returns-in_default
+returns-in_default g c =
     let u = c.args.units.now in
     let P = column c.args.order.now in
     c.len.ensures
-    ∙ end_missing g.O.Ordered.keyed g.U.RangeUnits.base (g.U.RangeUnits.order u) (g.U.RangeUnits.end u) (at P c.args.row) (sym c.in-default.ensures) P c.args.from
+    ∙ end_missing g.O.Ordered.keyed g.U.RangeUnits.base (g.U.RangeUnits.order u) (g.U.RangeUnits.end u) (at P c.args.row) (sym c.in_default.ensures) P c.args.from
 
 pub returns-in-Absent : goal.returns-in-Absent
 returns-in-Absent g c =

@@ -12,7 +12,7 @@ returns g c =
     let vs = non_null (batch c.args.rows.now) in
     let greatest = g.D.Direction.greatest in
     let keyed = g.V.Ordered.keyed in
-    let room = c.in-ok-self.ensures in
+    let room = c.in_ok-self.ensures in
     let r = room.0 ∙ ap (λ n. a.rows + n) told.rows in
     let b = ap (λ b. b.key) told.figure ∙ gathered_best greatest keyed _ vs ∙ ap (λ z. best greatest z (map keyed vs)) (sym (held_best a.rows a.best)) in
     (omega (arith, room.0, room.1, told.rows), λ i. extreme_state (r i) (b i))

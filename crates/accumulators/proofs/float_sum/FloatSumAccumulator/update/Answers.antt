@@ -8,8 +8,8 @@ use Rattle.accumulators.specs.Sql.{float_total}
 use Rattle.accumulators.specs.FloatSumsLemmas.{gathered_total, total_fits}
 use Rattle.accumulators.proofs.float_sum.FloatSumAccumulator.update.Goals as goal
 
-pub invariant-of-self : goal.invariant-of-self
-invariant-of-self c =
+pub invariant_of-self : goal.invariant_of-self
+invariant_of-self c =
     let a = c.args.self.now in
     let told = c.gather-batch.ensures in
     let vs = non_null (batch c.args.rows.now) in (
@@ -28,7 +28,7 @@ returns c =
     let a = c.args.self.now in
     let told = c.gather-batch.ensures in
     let vs = non_null (batch c.args.rows.now) in
-    let room = c.in-ok-rows.ensures in
+    let room = c.in_ok-rows.ensures in
     let r = room.0 ∙ ap (λ n. a.rows + n) told.rows in
     let p : a.present + c.gather-batch.result.present ≡ (a.present + length vs) % 2 ^ 64 = omega (arith, told.present, told.fewer, a.fewer, a.few) in
     let t = ap float_key (ap (λ b. b.value) told.figure ∙ gathered_total _ vs ∙ ap (λ z. float_total z vs) (sym (float_back a.total a.held))) in

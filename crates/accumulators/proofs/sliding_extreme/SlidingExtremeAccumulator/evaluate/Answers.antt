@@ -13,4 +13,4 @@ returns-in-None g c =
 pub returns-in-Some : goal.returns-in-Some
 returns-in-Some g c =
     let ks = rows_in c.args.self.now.ring in
-    ap Some c.from-key.ensures.value ∙ ap (option_map g.V.Ordered.valued) (c.in-Some.ensures ∙ ap (best g.D.Direction.greatest None) (sym (keys_back ks)))
+    ap Some c.from_key.ensures.value ∙ ap (option_map g.V.Ordered.valued) (c.in-Some.ensures ∙ ap (best g.D.Direction.greatest None) (sym (keys_back ks)))

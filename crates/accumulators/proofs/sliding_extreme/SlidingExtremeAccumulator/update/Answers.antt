@@ -12,8 +12,8 @@ returns g c =
     let ks = rows_in c.args.self.now.ring in
     let ys = batch c.args.rows.now in
     let js = map (option_map g.V.Ordered.keyed) ys in
-    let room = c.in-ok-make-room.ensures in
-    let after = c.push-all.ensures in
-    let r : length (rows_in c.push-all.new.ring) ≡ length ks + length ys = ap length after ∙ length-append ks js ∙ ap (λ n. length ks + n) (length-map ys (option_map g.V.Ordered.keyed)) in
+    let room = c.in_ok-make_room.ensures in
+    let after = c.push_all.ensures in
+    let r : length (rows_in c.push_all.new.ring) ≡ length ks + length ys = ap length after ∙ length-append ks js ∙ ap (λ n. length ks + n) (length-map ys (option_map g.V.Ordered.keyed)) in
     let p = ap pairs after ∙ pairs-append ks js in
     (omega (arith, room.0, room.1, c.gather-offered.ensures.rows, c.len.ensures.rows), λ i. r i ∷ p i)

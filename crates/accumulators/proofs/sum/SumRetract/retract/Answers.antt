@@ -20,6 +20,6 @@ returns-else-batch-self c =
     let fits_total : SFits w64 a.total = search rules in
     let fits_batch : SFits w64 b.value = search rules in
     let r = ap (λ n. a.rows - n) told.rows in
-    let p = c.saturating-sub-self.ensures ∙ ap (λ n. a.present - n) told.present in
+    let p = c.saturating_sub-self.ensures ∙ ap (λ n. a.present - n) told.present in
     let t = total_taken a.total b (non_null xs) fits_total fits_batch told.figure in
     rw (le-ltb a.rows (length xs) enough) (λ i. r i ∷ p i ∷ t i ∷ [])

@@ -3,7 +3,7 @@ use Rattle.rows.specs.Batches.{rows_of, batch}
 use Rattle.rows.proofs.Lists.{present_few}
 use Rattle.rows.proofs.Gathers.{value_more, missing_more, left_out_more, all_gathered}
 use Rattle.rows.proofs.arguments.Arguments.gather.Goals as goal
-use Rattle.rows.proofs.arguments.Arguments.gather.Goals.{in-Some+in-Some-argument, in-Some+in-default-argument, in-default}
+use Rattle.rows.proofs.arguments.Arguments.gather.Goals.{in-Some+in-Some-argument, in-Some+in_default-argument, in_default}
 
 pub loop-i-init : goal.loop-i-init
 loop-i-init g c = (omega arith, omega arith, refl, omega arith, omega arith)
@@ -13,8 +13,8 @@ loop-i-preserved g c =
     let R = rows_of c.args.self.now in
     elim c.match-row.branch [
       | in-Some+in-Some-argument w ↦ value_more _ R _ _ _ _ _ _ _ _ c.loop-i.invariant _ _ w.in-Some.ensures w.in-Some-argument.is w.rows-is w.present-is (w.figure-is ∙ w.gather.ensures)
-      | in-Some+in-default-argument w ↦ missing_more _ R _ _ _ _ _ _ _ _ c.loop-i.invariant _ w.in-Some.ensures w.in-default-argument.is w.rows-is w.present-is w.figure-is
-      | in-default w ↦ left_out_more _ R _ _ _ _ _ _ _ _ c.loop-i.invariant w.in-default.ensures w.rows-is w.present-is w.figure-is
+      | in-Some+in_default-argument w ↦ missing_more _ R _ _ _ _ _ _ _ _ c.loop-i.invariant _ w.in-Some.ensures w.in_default-argument.is w.rows-is w.present-is w.figure-is
+      | in_default w ↦ left_out_more _ R _ _ _ _ _ _ _ _ c.loop-i.invariant w.in_default.ensures w.rows-is w.present-is w.figure-is
     ]
 
 pub returns : goal.returns

@@ -4,11 +4,11 @@ use Rattle.rows.specs.Rows.{mask_bytes, rows}
 use Rattle.rows.proofs.RowLists.{mask_long, rows_take, rows_all}
 use Rattle.rows.proofs.arguments.Arguments.new.Goals as goal
 
-pub mask-part-requires : goal.mask-part-requires
-mask-part-requires g c = (omega arith, mask_long c.args.mask (length c.args.values.now) c.min-len.result (omega arith))
+pub mask_part-requires : goal.mask_part-requires
+mask_part-requires g c = record { start_le_end = omega arith; end_in_bounds = mask_long c.args.mask (length c.args.values.now) c.min-len.result (omega arith) }
 
-pub invariant-of-result : goal.invariant-of-result
-invariant-of-result g c =
+pub invariant_of-result : goal.invariant_of-result
+invariant_of-result g c =
     let vs = c.args.values.now in
     let ps = c.args.presence.now in
     let L = length vs in
@@ -17,7 +17,10 @@ invariant-of-result g c =
     let long : length (take n vs) ≡ n = length-take n vs ∙ omega arith in
     let wide : length (take n ps) ≡ n = length-take n ps ∙ omega arith in
     let kept : length (take n ms) ≡ n = length-take n ms ∙ omega arith in
-    (wide ∙ sym long, (ap (λ k. length (mask_bytes c.mask-part.result k)) long ∙ ap length (c.mask-part.ensures L (omega arith)) ∙ kept ∙ sym long, tt))
+    record {
+      aligned = wide ∙ sym long;
+      masked = ap (λ k. length (mask_bytes c.mask_part.result k)) long ∙ ap length (c.mask_part.ensures L (omega arith)) ∙ kept ∙ sym long;
+    }
 
 pub returns : goal.returns
 returns g c =
@@ -27,7 +30,7 @@ returns g c =
     let ms = mask_bytes c.args.mask L in
     let n = c.min-len.result - 0 in
     let long : length (take n vs) ≡ n = length-take n vs ∙ omega arith in
-    ap (λ k. rows (take n vs) (take n ps) (mask_bytes c.mask-part.result k)) long
-    ∙ ap (rows (take n vs) (take n ps)) (c.mask-part.ensures L (omega arith))
+    ap (λ k. rows (take n vs) (take n ps) (mask_bytes c.mask_part.result k)) long
+    ∙ ap (rows (take n vs) (take n ps)) (c.mask_part.ensures L (omega arith))
     ∙ rows_take n vs ps ms
     ∙ rows_all vs ps ms n (omega arith)

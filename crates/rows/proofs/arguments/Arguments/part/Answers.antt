@@ -4,25 +4,26 @@ use Rattle.rows.specs.Rows.{mask_bytes, rows}
 use Rattle.rows.proofs.RowLists.{mask_long, part_length, rows_part, clipped}
 use Rattle.rows.proofs.arguments.Arguments.part.Goals as goal
 
-pub mask-part-requires : goal.mask-part-requires
-mask-part-requires g c =
+pub mask_part-requires : goal.mask_part-requires
+mask_part-requires g c =
     let a = c.args.self.now in
-    (omega arith, mask_long a.mask (length a.values.now) c.min-end.result (omega (arith, a.masked)))
+    record { start_le_end = omega arith; end_in_bounds = mask_long a.mask (length a.values.now) c.min-end.result (omega (arith, a.masked)) }
 
-pub invariant-of-result : goal.invariant-of-result
-invariant-of-result g c =
+pub invariant_of-result : goal.invariant_of-result
+invariant_of-result g c =
     let a = c.args.self.now in
     let vs = a.values.now in
     let L = length vs in
     let s = c.min-start.result in
     let n = c.min-end.result - s in
-    let long : length (take n (drop s vs)) ≡ n = simp (length-take, length-drop) (omega arith) in (
-      part_length vs a.presence.now s n a.aligned,
-      (
-        ap (λ k. length (mask_bytes c.mask-part.result k)) long ∙ ap length (c.mask-part.ensures L (omega arith)) ∙ part_length vs (mask_bytes a.mask L) s n a.masked,
-        tt,
-      ),
-    )
+    let long : length (take n (drop s vs)) ≡ n = simp (length-take, length-drop) (omega arith) in
+    record {
+      aligned = part_length vs a.presence.now s n a.aligned;
+      masked =
+        ap (λ k. length (mask_bytes c.mask_part.result k)) long
+        ∙ ap length (c.mask_part.ensures L (omega arith))
+        ∙ part_length vs (mask_bytes a.mask L) s n a.masked;
+    }
 
 pub returns : goal.returns
 returns g c =
@@ -34,7 +35,7 @@ returns g c =
     let s = c.min-start.result in
     let n = c.min-end.result - s in
     let long : length (take n (drop s vs)) ≡ n = simp (length-take, length-drop) (omega arith) in
-    ap (λ k. rows (take n (drop s vs)) (take n (drop s ps)) (mask_bytes c.mask-part.result k)) long
-    ∙ ap (rows (take n (drop s vs)) (take n (drop s ps))) (c.mask-part.ensures L (omega arith))
+    ap (λ k. rows (take n (drop s vs)) (take n (drop s ps)) (mask_bytes c.mask_part.result k)) long
+    ∙ ap (rows (take n (drop s vs)) (take n (drop s ps))) (c.mask_part.ensures L (omega arith))
     ∙ rows_part n s vs ps ms
     ∙ clipped (rows vs ps ms) c.args.start c.args.end c.min-end.result s (c.min-end.ensures ∙ ap (min c.args.end) c.len.ensures.rows) c.min-start.ensures
