@@ -8,20 +8,11 @@ use Rattle.accumulators.specs.Sql.{float_total}
 use Rattle.accumulators.specs.FloatSumsLemmas.{gathered_total, total_fits}
 use Rattle.accumulators.proofs.float_sum.FloatSumAccumulator.update.Goals as goal
 
-pub invariant_of-self : goal.invariant_of-self
-invariant_of-self c =
+pub invariant_of-self-clause-held : goal.invariant_of-self-clause-held
+invariant_of-self-clause-held c =
     let a = c.args.self.now in
-    let told = c.gather-batch.ensures in
-    let vs = non_null (batch c.args.rows.now) in (
-      omega arith,
-      (
-        omega (arith, told.fewer, a.fewer),
-        (
-          subst (λ (z : Float). T (fits binary64 z)) (sym (ap (λ b. b.value) told.figure ∙ gathered_total _ vs)) (total_fits a.total vs a.held),
-          tt,
-        ),
-      ),
-    )
+    let vs = non_null (batch c.args.rows.now) in
+    subst (λ (z : Float). T (fits binary64 z)) (sym (ap (λ b. b.value) c.gather-batch.ensures.figure ∙ gathered_total _ vs)) (total_fits a.total vs a.held)
 
 pub returns : goal.returns
 returns c =

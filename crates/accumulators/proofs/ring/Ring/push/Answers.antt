@@ -2,8 +2,8 @@ use Rattle.std.proofs.Common.{◌≡◌, ◌<◌, length, arith, rules}
 use Rattle.accumulators.proofs.Rings.{ring_push, ring_length}
 use Rattle.accumulators.proofs.ring.Ring.push.Goals as goal
 
-pub invariant_of-self : goal.invariant_of-self
-invariant_of-self c = let r = c.args.self.now in (r.inside, (omega (arith, ring_length r.places r.first r.held), tt))
+pub invariant_of-self-clause-few : goal.invariant_of-self-clause-few
+invariant_of-self-clause-few c = let r = c.args.self.now in omega (arith, ring_length r.places r.first r.held)
 
 pub returns : goal.returns
 returns c =
