@@ -1,5 +1,5 @@
 -- SUM of floats keeps the laws. Assumes nothing.
-use Rattle.std.specs.Prelude.{◌≡◌, ℕ, zero, suc, ◌+◌, false, T, List, [], ◌∷◌, ◌++◌, length, pos, Some, fold, Option, ◌≢◌, refl, Float}
+use Rattle.std.specs.Prelude.{◌≡◌, ℕ, zero, suc, false, T, List, [], ◌∷◌, ◌++◌, length, pos, Some, fold, Option, ◌≢◌, refl, Float}
 use Rattle.std.proofs.Common.{sym, ap, ◌∙◌}
 use Rattle.std.specs.Float.{fin, binary64}
 use Rattle.std.specs.Float.Ieee.{add, fits, of_bits}

@@ -2,7 +2,6 @@
 use Rattle.std.proofs.Common.{◌≡◌, ℕ, Bool, true, false, ℤ, is_some, Some, None, Option, refl, arith}
 use borrow.Author.Differences.{ints}
 use lib.IntN.{sub_ℕ}
-use lib.Signed.{lt_z}
 use Rattle.std.proofs.lemmas.Bool.{false≢true}
 use Rattle.bounds.specs.declared.sort.SortOptions.{SortOptions}
 use Rattle.bounds.specs.Orders.{sorts_before, precedes, place, before}

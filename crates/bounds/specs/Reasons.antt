@@ -1,5 +1,5 @@
 -- Why a frame is ill-made: the first reason that applies (docs/RULES.md, section 5.5). Assumes nothing.
-use Rattle.std.specs.Prelude.{ℕ, Bool, true, false, cond, not, ◌&&◌, ◌||◌, List, [], ◌∷◌, is_some, Some, None, Ok, Err, Option, Result}
+use Rattle.std.specs.Prelude.{ℕ, Bool, cond, not, ◌&&◌, ◌||◌, List, [], ◌∷◌, is_some, Some, None, Ok, Err, Option, Result}
 use Rattle.bounds.specs.declared.reason.IllMade.{IllMade}
 use Rattle.bounds.specs.declared.reason.IllMade.TheVariants.{StartUnboundedFollowing, EndUnboundedPreceding, StartBehindEnd, TooFar, DistanceWithoutOrder, PlainMovingStart}
 use Rattle.bounds.specs.declared.bound.WindowFrameBound.{WindowFrameBound}

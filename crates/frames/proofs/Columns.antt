@@ -1,5 +1,5 @@
 -- The rows that a lent column shows. Assumes nothing.
-use Rattle.std.proofs.Common.{◌≡◌, ℕ, ◌<◌, ◌≤◌, List, map, length, get_or, replicate, Some, None, Option, sym, ap, ◌∙◌, ⊎_elim, arith, Bor}
+use Rattle.std.proofs.Common.{◌≡◌, ℕ, ◌<◌, ◌≤◌, List, length, get_or, Some, None, Option, sym, ap, ◌∙◌, ⊎_elim, arith, Bor}
 use lib.ListN.{length-map, length-replicate}
 use Rattle.frames.specs.declared.order.OrderColumn.{OrderColumn}
 use Rattle.frames.specs.declared.order.OrderColumn.TheVariants.{Values, Absent}

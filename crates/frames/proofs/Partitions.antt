@@ -1,10 +1,8 @@
 -- The frames of a partition and of every longer one, from the laws of a rule alone. Assumes nothing.
-use Rattle.std.proofs.Common.{◌≡◌, ℕ, zero, suc, ◌+◌, ◌-◌, ◌<◌, ◌≤◌, true, false, ◌⊎◌, List, [], ◌∷◌, ◌++◌, length, get_or, drop, set, Option, sym, refl, ap, ◌∙◌, inl, inr, append_assoc, add-one, arith}
+use Rattle.std.proofs.Common.{◌≡◌, ℕ, zero, suc, ◌+◌, ◌-◌, ◌<◌, ◌≤◌, List, [], ◌∷◌, ◌++◌, length, get_or, drop, set, Option, sym, refl, ap, ◌∙◌, inl, inr, append_assoc, add-one, arith}
 use Rattle.std.proofs.lemmas.List.{set-append_right, drop_more, length_push}
 use Rattle.frames.specs.declared.frame.RowFrame.{RowFrame}
-use Rattle.frames.specs.declared.frame.WindowFrameRange.{WindowFrameRange}
-use Rattle.bounds.specs.Orders.{InOrder}
-use Rattle.frames.specs.Rules.{Rule, previous, frame_of, waits}
+use Rattle.frames.specs.Rules.{Rule, previous, frame_of}
 use Rattle.frames.specs.Laws.{Lawful, MayFollow}
 use Rattle.frames.specs.Partitions.{Told, row_frame, row_frames}
 use Rattle.frames.specs.OrderLists.{in_order_front}

@@ -1,12 +1,12 @@
 -- Columns in order. Assumes nothing.
 use Rattle.std.specs.Prelude.{◌≡◌, ℕ, zero, suc, ◌+◌, ◌-◌, ◌<◌, ◌≤◌, Bool, true, false, ◌⊎◌, List, [], ◌∷◌, ◌++◌, length, is_some, Some, None, Option, slice_index_or, refl}
-use Rattle.std.proofs.Common.{sym, ap, subst, ◌∙◌, inl, inr, arith, length-append}
+use Rattle.std.proofs.Common.{sym, subst, ◌∙◌, inl, inr, arith, length-append}
 use Rattle.std.specs.List.{AllByRecursion as All}
 use Rattle.std.proofs.ByRecursion.{All-get_or, All-from_get_or, All-push}
 use Rattle.std.proofs.lemmas.List.{get_or_append_left, get_or-append-add}
 use Rattle.std.proofs.lemmas.Bool.{false≢true}
 use Rattle.bounds.specs.declared.sort.SortOptions.{SortOptions}
-use Rattle.bounds.specs.Orders.{precedes, place, before, NoneBefore, Rising, InOrder, at, last}
+use Rattle.bounds.specs.Orders.{place, before, NoneBefore, Rising, InOrder, at, last}
 use Rattle.bounds.proofs.Places.{peers_of_itself, not_after}
 
 module _ {O : Type 0} (keyed : O → ℕ) where

@@ -1,9 +1,9 @@
 -- ROWS keeps the laws. Assumes nothing.
-use Rattle.std.specs.Prelude.{◌≡◌, ℕ, zero, suc, ◌+◌, ◌-◌, ◌<◌, ◌≤◌, min, Bool, true, false, not, ◌&&◌, ◌||◌, ◌⊎◌, List, [], ◌∷◌, ◌++◌, length, is_some, Option, nat_le, nat_lt, refl}
-use Rattle.std.proofs.Common.{sym, ap, ◌∙◌, inl, inr, ⊎_elim, arith, length-append}
+use Rattle.std.specs.Prelude.{◌≡◌, ℕ, zero, suc, ◌+◌, ◌<◌, ◌≤◌, true, false, not, ◌&&◌, ◌||◌, ◌⊎◌, List, [], ◌∷◌, ◌++◌, length, is_some, Option, nat_le, nat_lt, refl}
+use Rattle.std.proofs.Common.{◌∙◌, inl, inr, ⊎_elim, arith, length-append}
 use Rattle.std.proofs.lemmas.Int.{ints}
 use Rattle.std.proofs.lemmas.List.{length_push}
-use Rattle.std.proofs.lemmas.Bool.{and_parts, both_ways, false≢true, true≢false, ltb-false}
+use Rattle.std.proofs.lemmas.Bool.{and_parts, false≢true, true≢false}
 use Rattle.std.proofs.lemmas.Bool.Decides.{nat_tests}
 use Rattle.bounds.specs.declared.sort.SortOptions.{SortOptions}
 use Rattle.bounds.specs.declared.bound.WindowFrameBound.{WindowFrameBound}
@@ -13,7 +13,7 @@ use Rattle.frames.specs.Standard.{rows_start_excludes, rows_end_excludes}
 use Rattle.frames.specs.Rows.{rows_start, rows_end, rows_causal, rows_rule}
 use Rattle.frames.specs.Laws.{Lawful}
 use Rattle.frames.specs.OrderLists.{coming}
-use Rattle.frames.specs.Waiting.{Sure, sure, unsure}
+use Rattle.frames.specs.Waiting.{sure, unsure}
 
 -- ---- one bound
 start_rises : (a : WindowFrameBound ℕ) (L i : ℕ) → rows_start a L i ≤ rows_start a L (suc i)

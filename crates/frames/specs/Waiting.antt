@@ -1,5 +1,5 @@
 -- A row waits, or its frame is sure. Assumes nothing.
-use Rattle.std.specs.Prelude.{◌≡◌, ℕ, ◌<◌, ◌≤◌, Bool, true, false, not, ◌&&◌, ◌⊎◌, List, length, Option, nat_le}
+use Rattle.std.specs.Prelude.{◌≡◌, ℕ, ◌<◌, ◌≤◌, true, false, not, ◌&&◌, ◌⊎◌, List, length, Option, nat_le}
 use Rattle.std.proofs.Common.{inl, inr, ⊎_elim}
 use Rattle.std.proofs.lemmas.Bool.{and_parts, and_cases, and_left, and_right, leb-true, leb-false, lt-leb, not-true, not-false, not_from_true}
 use Rattle.frames.specs.declared.frame.WindowFrameRange.{WindowFrameRange}

@@ -1,5 +1,5 @@
 -- Bounds that lead nowhere: no row is removed. Assumes nothing.
-use Rattle.std.specs.Prelude.{◌≡◌, ℕ, min, Bool, true, false, cond, not, List, length, ℤ, Some, None, Option, refl}
+use Rattle.std.specs.Prelude.{◌≡◌, ℕ, min, false, cond, not, List, length, ℤ, Some, None, Option, refl}
 use Rattle.std.proofs.Common.{sym, ap, ◌∙◌}
 use Rattle.bounds.specs.declared.sort.SortOptions.{SortOptions}
 use Rattle.bounds.specs.declared.bound.WindowFrameBound.{WindowFrameBound}

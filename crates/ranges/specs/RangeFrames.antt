@@ -1,27 +1,26 @@
 -- RANGE keeps the laws. Assumes nothing.
-use Rattle.std.specs.Prelude.{◌≡◌, ℕ, zero, suc, ◌+◌, ◌-◌, ◌<◌, ◌≤◌, min, Bool, true, false, cond, not, ◌&&◌, ◌||◌, ltb, ◌⊎◌, List, [], ◌∷◌, ◌++◌, length, ℤ, pos, is_some, Some, None, Option, nat_le, nat_lt, refl}
-use Rattle.std.proofs.Common.{sym, ap, subst, ◌∙◌, inl, inr, ⊎_elim, arith, length-append}
+use Rattle.std.specs.Prelude.{◌≡◌, ℕ, zero, suc, ◌-◌, ◌<◌, ◌≤◌, Bool, true, false, cond, not, ◌&&◌, ◌||◌, ltb, ◌⊎◌, List, [], ◌∷◌, ◌++◌, length, ℤ, pos, is_some, Some, None, Option, nat_le, nat_lt, refl}
+use Rattle.std.proofs.Common.{sym, ap, subst, ◌∙◌, inl, inr, ⊎_elim, arith}
 use Rattle.std.specs.List.{prefix_len, AllByRecursion as All}
 use Rattle.std.proofs.ByRecursion.{All-get_or, All-weaker}
 use Rattle.std.proofs.lemmas.List.{get_or_append_left, length_push}
-use Rattle.std.proofs.lemmas.List.Sums.{prefix_len-le-length}
-use Rattle.std.proofs.lemmas.Bool.{and_parts, both_ways, false≢true, true≢false, ltb-true, ltb-false, lt-ltb, not-true, not-false, cases_Bool}
+use Rattle.std.proofs.lemmas.Bool.{and_parts, both_ways, false≢true, ltb-true, ltb-false, lt-ltb, not-true}
 use Rattle.std.proofs.lemmas.Bool.Decides.{nat_tests}
 use Rattle.frames.specs.declared.frame.WindowFrameRange.{WindowFrameRange}
 use Rattle.bounds.specs.declared.sort.SortOptions.{SortOptions}
 use Rattle.bounds.specs.declared.bound.WindowFrameBound.{WindowFrameBound}
 use Rattle.bounds.specs.declared.bound.WindowFrameBound.TheVariants.{UnboundedPreceding, Preceding, CurrentRow, Following, UnboundedFollowing}
-use Rattle.bounds.specs.Bounds.{behind, distant, offset, unbounded, is_unbounded_following, is_unbounded_preceding}
+use Rattle.bounds.specs.Bounds.{distant, offset, unbounded, is_unbounded_preceding}
 use Rattle.bounds.specs.Orders.{precedes, place, before, at, last, NoneBefore, InOrder, row_ahead}
 use Rattle.frames.specs.Standard.{moved, target, start_excludes, end_excludes}
 use Rattle.ranges.specs.Ranges.{range_causal, range_closed, all_rows, range_rule, WellMade}
-use Rattle.frames.specs.Rules.{Rule, previous, frame_of, inside}
+use Rattle.frames.specs.Rules.{Rule, previous, frame_of}
 use Rattle.frames.specs.Laws.{Lawful, MayFollow, WouldGrow}
 use Rattle.ranges.specs.Scans.{first_from}
 use Rattle.ranges.specs.Fronts.{first_is, front_is, first_keeps, first_halts, first_later, leading_more, leading_mono}
 use Rattle.bounds.proofs.Places.{lower, upper, by_place, placed}
 use Rattle.ranges.specs.Moves.{turn, start_on, end_on, unmoved, moved_back}
-use Rattle.ranges.specs.Aims.{no_value, no_bound, start_keeps, end_keeps, start_unaimed, end_unaimed}
+use Rattle.ranges.specs.Aims.{no_bound, start_keeps, end_keeps, start_unaimed, end_unaimed}
 use Rattle.frames.specs.OrderLists.{rising_at, in_order_front, valued_rest, none_before_row, coming}
 use Rattle.frames.proofs.Previous.{previous_made, previous_within}
 use Rattle.frames.specs.Waiting.{Sure, sure, unsure}

@@ -20,9 +20,9 @@ invariant_of-result g c =
     record {
       aligned = part_length vs a.presence.now s n a.aligned;
       masked =
-        ap (λ k. length (mask_bytes c.mask_part.result k)) long
-        ∙ ap length (c.mask_part.ensures L (omega arith))
-        ∙ part_length vs (mask_bytes a.mask L) s n a.masked;
+          ap (λ k. length (mask_bytes c.mask_part.result k)) long
+          ∙ ap length (c.mask_part.ensures L (omega arith))
+          ∙ part_length vs (mask_bytes a.mask L) s n a.masked;
     }
 
 pub returns : goal.returns
