@@ -2,7 +2,7 @@
 use Rattle.std.specs.Prelude.{◌≡◌, ℕ, zero, suc, ◌+◌, Bool, true, false, cond, ltb, List, [], ◌∷◌, ◌++◌, map, length, Some, None, fold, Option, nat_lt, refl}
 use Rattle.std.proofs.Common.{sym, ap, subst, ◌∙◌, arith}
 use Rattle.std.specs.Option.{option_map}
-use Rattle.std.specs.List.{ContainsAt as Has, AllByRecursion as All}
+use Rattle.std.specs.List.{ContainsAt, AllByRecursion}
 use Rattle.std.proofs.lemmas.List.{map-append}
 use Rattle.std.proofs.ByRecursion.{all-has, has_append_right}
 use Rattle.std.proofs.lemmas.Bool.Decides.{nat_tests}
@@ -58,9 +58,9 @@ overtaken false a b c h k = grind (arith, nat_tests)
 module _ {V : Type 0} (greatest : Bool) (keyed : V → ℕ) where
   -- one of the values has the best key, and no other is ahead of it
   abbrev Won : V → List V → Type 0
-  Won v vs = (w : V) × (best greatest (Some (keyed v)) (map keyed vs) ≡ Some (keyed w)) × Has (v ∷ vs) w × All (λ u. ahead greatest ltb (keyed u) (keyed w) ≡ false) (v ∷ vs)
+  Won v vs = (w : V) × (best greatest (Some (keyed v)) (map keyed vs) ≡ Some (keyed w)) × ContainsAt (v ∷ vs) w × AllByRecursion (λ u. ahead greatest ltb (keyed u) (keyed w) ≡ false) (v ∷ vs)
 
-  skip : (v x w : V) (xs : List V) → Has (v ∷ xs) w → Has (v ∷ x ∷ xs) w
+  skip : (v x w : V) (xs : List V) → ContainsAt (v ∷ xs) w → ContainsAt (v ∷ x ∷ xs) w
   skip v x w xs (zero, h, e) = (0, omega arith, e)
   skip v x w xs (suc k, h, e) = (suc (suc k), omega arith, e)
 
@@ -85,7 +85,7 @@ module _ {V : Type 0} (greatest : Bool) (keyed : V → ℕ) where
 
 module _ {V : Type 0} (greatest : Bool) (fits : V → Type 0) (before : V → V → Bool) (keyed : V → ℕ) (valued : ℕ → V)
     (restored : (v : V) → fits v → valued (keyed v) ≡ v) (ordered : (v w : V) → fits v → fits w → before v w ≡ nat_lt (keyed v) (keyed w)) where
-  none_ahead : (w : V) (vs : List V) → fits w → All fits vs → All (λ u. ahead greatest ltb (keyed u) (keyed w) ≡ false) vs → All (λ u. ahead greatest before u w ≡ false) vs
+  none_ahead : (w : V) (vs : List V) → fits w → AllByRecursion fits vs → AllByRecursion (λ u. ahead greatest ltb (keyed u) (keyed w) ≡ false) vs → AllByRecursion (λ u. ahead greatest before u w ≡ false) vs
   none_ahead w [] f h k = tt
   none_ahead w (u ∷ vs) f h k = (turned greatest k.0, none_ahead w vs f h.1 k.1)
     where
@@ -93,7 +93,7 @@ module _ {V : Type 0} (greatest : Bool) (fits : V → Type 0) (before : V → V 
       turned true e = ordered w u f h.0 ∙ e
       turned false e = ordered u w h.0 f ∙ e
 
-  standard : (vs : List V) → All fits vs → IsMinOrMax greatest before vs (option_map valued (best greatest None (map keyed vs)))
+  standard : (vs : List V) → AllByRecursion fits vs → IsMinOrMax greatest before vs (option_map valued (best greatest None (map keyed vs)))
   standard [] h = refl
   standard (v ∷ vs) h =
       let r = won greatest keyed v vs in

@@ -1,7 +1,7 @@
 -- Lists of optional values. Assumes nothing.
 use Rattle.std.specs.Prelude.{◌≡◌, ◌+◌, List, [], ◌∷◌, ◌++◌, length, Some, None, Option, refl}
 use Rattle.std.proofs.Common.{ap, ◌∙◌, length-append}
-use Rattle.std.specs.List.{AllByRecursion as All}
+use Rattle.std.specs.List.{AllByRecursion}
 use Rattle.rows.specs.Rows.{non_null}
 use Rattle.rows.proofs.Lists.{non_null-append}
 use Rattle.accumulators.specs.Sql.{null_if_none}
@@ -14,7 +14,7 @@ pub null_is : {V A : Type 0} (vs : List V) (a : A) → missing_at_0 (length vs) 
 null_is [] a = refl
 null_is (v ∷ vs) a = refl
 
-pub each_value : {V : Type 0} (P : V → Type 0) (xs : List (Option V)) → Each P xs → All P (non_null xs)
+pub each_value : {V : Type 0} (P : V → Type 0) (xs : List (Option V)) → Each P xs → AllByRecursion P (non_null xs)
 each_value P [] e = tt
 each_value P (None ∷ xs) e = each_value P xs e
 each_value P (Some v ∷ xs) e = (e.0, each_value P xs e.1)

@@ -3,7 +3,7 @@
 use Rattle.std.specs.Prelude.{◌≡◌, ℕ, Bool, true, false, List, [], ◌∷◌, length, ℤ, pos, ◌+ℤ◌, Some, None, fold, Option, Float}
 use Rattle.std.specs.Float.{fin, binary64}
 use Rattle.std.specs.Float.Ieee.{add}
-use Rattle.std.specs.List.{ContainsAt as Has, AllByRecursion as All}
+use Rattle.std.specs.List.{ContainsAt, AllByRecursion}
 use Rattle.rows.specs.Rows.{non_null}
 
 -- COUNT is the number of values.
@@ -38,4 +38,4 @@ ahead true before v w = before w v
 -- MIN is one of the values, and none comes before it; MAX is one of them too, and comes before none.
 abbrev pub IsMinOrMax : {V : Type 0} → Bool → (V → V → Bool) → List V → Option V → Type 0
 IsMinOrMax greatest before vs None = vs ≡ []
-IsMinOrMax greatest before vs (Some v) = Has vs v × All (λ w. ahead greatest before w v ≡ false) vs
+IsMinOrMax greatest before vs (Some v) = ContainsAt vs v × AllByRecursion (λ w. ahead greatest before w v ≡ false) vs

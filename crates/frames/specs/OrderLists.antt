@@ -1,7 +1,7 @@
 -- Columns in order. Assumes nothing.
 use Rattle.std.specs.Prelude.{◌≡◌, ℕ, zero, suc, ◌+◌, ◌-◌, ◌<◌, ◌≤◌, Bool, true, false, ◌⊎◌, List, [], ◌∷◌, ◌++◌, length, is_some, Some, None, Option, slice_index_or, refl}
 use Rattle.std.proofs.Common.{sym, subst, ◌∙◌, inl, inr, arith, length-append}
-use Rattle.std.specs.List.{AllByRecursion as All}
+use Rattle.std.specs.List.{AllByRecursion}
 use Rattle.std.proofs.ByRecursion.{All-get_or, All-from_get_or, All-push}
 use Rattle.std.proofs.lemmas.List.{get_or_append_left, get_or-append-add}
 use Rattle.std.proofs.lemmas.Bool.{false≢true}
@@ -22,11 +22,11 @@ module _ {O : Type 0} (keyed : O → ℕ) where
   rising_at None P h k j l m = refl
   rising_at (Some s) P h k j l m = rising s P h.1 k j l m
 
-  all_front : (Q : Option O → Type 0) (P rest : List (Option O)) → All Q (P ++ rest) → All Q P
+  all_front : (Q : Option O → Type 0) (P rest : List (Option O)) → AllByRecursion Q (P ++ rest) → AllByRecursion Q P
   all_front Q [] rest h = tt
   all_front Q (v ∷ P) rest h = (h.0, all_front Q P rest h.1)
 
-  all_rest : (Q : Option O → Type 0) (P rest : List (Option O)) → All Q (P ++ rest) → All Q rest
+  all_rest : (Q : Option O → Type 0) (P rest : List (Option O)) → AllByRecursion Q (P ++ rest) → AllByRecursion Q rest
   all_rest Q [] rest h = h
   all_rest Q (v ∷ P) rest h = all_rest Q P rest h.1
 
@@ -38,7 +38,7 @@ module _ {O : Type 0} (keyed : O → ℕ) where
   in_order_front None P rest h = tt
   in_order_front (Some s) P rest h = (all_front (λ v. is_some v ≡ true) P rest h.0, rising_front s P rest h.1)
 
-  pub valued_rest : (s : SortOptions) (P rest : List (Option O)) → InOrder keyed (Some s) (P ++ rest) → All (λ v. is_some v ≡ true) rest
+  pub valued_rest : (s : SortOptions) (P rest : List (Option O)) → InOrder keyed (Some s) (P ++ rest) → AllByRecursion (λ v. is_some v ≡ true) rest
   valued_rest s P rest h = all_rest (λ v. is_some v ≡ true) P rest h.0
 
   -- rows to come do not sort before row k
@@ -52,7 +52,7 @@ module _ {O : Type 0} (keyed : O → ℕ) where
           subst (λ v. before keyed o v (at P k) ≡ false) (get_or-append-add P rest j None)
           (subst (λ v. before keyed o (at (P ++ rest) (length P + j)) v ≡ false) (get_or_append_left P rest None k l) r)
 
-  rising_push : (s : SortOptions) (P : List (Option O)) (v : Option O) → Rising keyed (Some s) P → All (λ w. before keyed (Some s) v w ≡ false) P → Rising keyed (Some s) (P ++ v ∷ [])
+  rising_push : (s : SortOptions) (P : List (Option O)) (v : Option O) → Rising keyed (Some s) P → AllByRecursion (λ w. before keyed (Some s) v w ≡ false) P → Rising keyed (Some s) (P ++ v ∷ [])
   rising_push s [] v r h = (tt, tt)
   rising_push s (w ∷ P) v r h = (All-push (λ x. before keyed (Some s) x w ≡ false) P v r.0 h.0, rising_push s P v r.1 h.1)
 
@@ -66,7 +66,7 @@ module _ {O : Type 0} (keyed : O → ℕ) where
     shown s (Some a) None h = absurd (false≢true h)
     shown s (Some a) (Some b) h = refl
 
-    up_to_last : (s : SortOptions) → InOrder keyed (Some s) P → All (λ w. before keyed (Some s) (last P) w ≡ false) P
+    up_to_last : (s : SortOptions) → InOrder keyed (Some s) P → AllByRecursion (λ w. before keyed (Some s) (last P) w ≡ false) P
     up_to_last s h = All-from_get_or (λ w. before keyed (Some s) (last P) w ≡ false) P None (λ j l. rising_at (Some s) P h j (length P - 1) (omega arith) (omega arith))
 
     by_last : (s : SortOptions) → InOrder keyed (Some s) P → (b : Bool) → before keyed (Some s) (last P) newest ≡ b → Coming (Some s)

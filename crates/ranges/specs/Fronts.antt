@@ -1,7 +1,7 @@
 -- The longest front of a list that passes a test, and searches that go on from within it. Assumes nothing.
 use Rattle.std.specs.Prelude.{◌≡◌, ℕ, zero, suc, ◌+◌, ◌<◌, ◌≤◌, min, Bool, true, false, cond, List, [], ◌∷◌, ◌++◌, length, drop, nat_lt, slice_index_or, refl}
 use Rattle.std.proofs.Common.{sym, ap, ◌∙◌, subst, arith, one-add, length-drop, length-append}
-use Rattle.std.specs.List.{prefix_len, AllByRecursion as All}
+use Rattle.std.specs.List.{prefix_len, AllByRecursion}
 use Rattle.std.proofs.lemmas.List.{drop-append-le}
 use Rattle.std.proofs.lemmas.List.Sums.{prefix_len-le-length}
 use Rattle.std.proofs.lemmas.Bool.{lt-ltb, le-ltb, both_ways}
@@ -44,7 +44,7 @@ module _ {X : Type 0} (p : X → Bool) where
   leading_keeps [] ys h = absurd (omega arith)
   leading_keeps (x ∷ xs) ys h = let ih = leading_keeps xs ys in grind (arith, ih)
 
-  leading_halts : (xs ys : List X) → All (λ y. p y ≡ false) ys → prefix_len p (xs ++ ys) ≡ prefix_len p xs
+  leading_halts : (xs ys : List X) → AllByRecursion (λ y. p y ≡ false) ys → prefix_len p (xs ++ ys) ≡ prefix_len p xs
   leading_halts [] [] h = refl
   leading_halts [] (y ∷ ys) h = ap (λ b. cond b (1 + prefix_len p ys) 0) h.0
   leading_halts (x ∷ xs) ys h = ap (λ n. cond (p x) (1 + n) 0) (leading_halts xs ys h)
@@ -56,7 +56,7 @@ module _ {X : Type 0} (p : X → Bool) where
       let e = ap (λ z. prefix_len p z) (drop-append-le s xs ys h) ∙ leading_keeps (drop s xs) ys (omega arith) in
       omega arith
 
-  pub first_halts : (xs ys : List X) (s : ℕ) → s ≤ length xs → All (λ y. p y ≡ false) ys → first_from p s (xs ++ ys) ≡ first_from p s xs
+  pub first_halts : (xs ys : List X) (s : ℕ) → s ≤ length xs → AllByRecursion (λ y. p y ≡ false) ys → first_from p s (xs ++ ys) ≡ first_from p s xs
   first_halts xs ys s h none =
       let d = length-drop s xs in
       let l = length-append xs ys in

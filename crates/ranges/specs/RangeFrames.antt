@@ -1,7 +1,7 @@
 -- RANGE keeps the laws. Assumes nothing.
 use Rattle.std.specs.Prelude.{◌≡◌, ℕ, zero, suc, ◌-◌, ◌<◌, ◌≤◌, Bool, true, false, cond, not, ◌&&◌, ◌||◌, ltb, ◌⊎◌, List, [], ◌∷◌, ◌++◌, length, ℤ, pos, is_some, Some, None, Option, nat_le, nat_lt, refl}
 use Rattle.std.proofs.Common.{sym, ap, subst, ◌∙◌, inl, inr, ⊎_elim, arith}
-use Rattle.std.specs.List.{prefix_len, AllByRecursion as All}
+use Rattle.std.specs.List.{prefix_len, AllByRecursion}
 use Rattle.std.proofs.ByRecursion.{All-get_or, All-weaker}
 use Rattle.std.proofs.lemmas.List.{get_or_append_left, length_push}
 use Rattle.std.proofs.lemmas.Bool.{and_parts, both_ways, false≢true, ltb-true, ltb-false, lt-ltb, not-true}
@@ -209,16 +209,16 @@ module _ {O : Type 0} (keyed : O → ℕ) (base : ℕ) (o : Option SortOptions) 
 
   module _ (P rest : List (Option O)) (newest : Option O) (i : ℕ) (h : i < length P) (follow : MayFollow keyed rule P newest rest) where
     abbrev Removed : Type 0
-    Removed = All (λ r. end_excludes keyed base o b (at P i) r ≡ true) rest
+    Removed = AllByRecursion (λ r. end_excludes keyed base o b (at P i) r ≡ true) rest
 
     inner : InOrder keyed o P
     inner = in_order_front keyed o P rest follow.0
 
     -- each row to come has a value, and does not sort before the most recent row, nor before row i
-    each : (s : SortOptions) → o ≡ Some s → (Q R : Option O → Type 0) → ((r : Option O) → is_some r ≡ true → Q r → R r) → All Q rest → All R rest
+    each : (s : SortOptions) → o ≡ Some s → (Q R : Option O → Type 0) → ((r : Option O) → is_some r ≡ true → Q r → R r) → AllByRecursion Q rest → AllByRecursion R rest
     each s e Q R f q = go rest (valued_rest keyed s P rest (subst (λ o. InOrder keyed o (P ++ rest)) e follow.0)) q
       where
-        go : (xs : List (Option O)) → All (λ v. is_some v ≡ true) xs → All Q xs → All R xs
+        go : (xs : List (Option O)) → AllByRecursion (λ v. is_some v ≡ true) xs → AllByRecursion Q xs → AllByRecursion R xs
         go [] v q = tt
         go (x ∷ xs) v q = (f x v.0 q.0, go xs v.1 q.1)
 
