@@ -3,23 +3,15 @@ use Rattle.std.specs.Prelude.{ℕ, Bool, true, false, ℤ, pos, neg_ℤ, Some, N
 use Rattle.bounds.specs.declared.bound.WindowFrameBound.{WindowFrameBound}
 use Rattle.bounds.specs.declared.bound.WindowFrameBound.TheVariants.{UnboundedPreceding, Preceding, CurrentRow, Following, UnboundedFollowing}
 
--- a bound with its number
-abbrev pub counted : {D : Type 0} → (D → ℕ) → WindowFrameBound D → WindowFrameBound ℕ
-counted count UnboundedPreceding = UnboundedPreceding
-counted count (Preceding n) = Preceding (count n)
-counted count CurrentRow = CurrentRow
-counted count (Following n) = Following (count n)
-counted count UnboundedFollowing = UnboundedFollowing
-
 -- the same bound where the rows come in reverse
-abbrev pub mirrored : {D : Type 0} → WindowFrameBound D → WindowFrameBound D
+abbrev pub mirrored : WindowFrameBound → WindowFrameBound
 mirrored UnboundedPreceding = UnboundedFollowing
 mirrored (Preceding n) = Following n
 mirrored CurrentRow = CurrentRow
 mirrored (Following n) = Preceding n
 mirrored UnboundedFollowing = UnboundedPreceding
 
-abbrev pub unbounded : {D : Type 0} → WindowFrameBound D → Bool
+abbrev pub unbounded : WindowFrameBound → Bool
 unbounded UnboundedPreceding = true
 unbounded (Preceding n) = false
 unbounded CurrentRow = false
@@ -27,7 +19,7 @@ unbounded (Following n) = false
 unbounded UnboundedFollowing = true
 
 -- n FOLLOWING lies n behind the row, CURRENT ROW at it, and n PRECEDING n before it
-abbrev pub offset : WindowFrameBound ℕ → Option ℤ
+abbrev pub offset : WindowFrameBound → Option ℤ
 offset UnboundedPreceding = None
 offset (Preceding n) = Some (neg_ℤ (pos n))
 offset CurrentRow = Some (pos 0)
@@ -40,11 +32,11 @@ runs_back None to = false
 runs_back (Some from) None = false
 runs_back (Some from) (Some to) = int_lt to from
 
-abbrev pub behind : WindowFrameBound ℕ → WindowFrameBound ℕ → Bool
+abbrev pub behind : WindowFrameBound → WindowFrameBound → Bool
 behind start end = runs_back (offset start) (offset end)
 
 -- n PRECEDING and n FOLLOWING
-abbrev pub distant : {D : Type 0} → WindowFrameBound D → Bool
+abbrev pub distant : WindowFrameBound → Bool
 distant UnboundedPreceding = false
 distant (Preceding n) = true
 distant CurrentRow = false
@@ -52,21 +44,21 @@ distant (Following n) = true
 distant UnboundedFollowing = false
 
 -- the bound's number is over the limit
-abbrev pub beyond : ℕ → WindowFrameBound ℕ → Bool
+abbrev pub beyond : ℕ → WindowFrameBound → Bool
 beyond limit UnboundedPreceding = false
 beyond limit (Preceding n) = nat_lt limit n
 beyond limit CurrentRow = false
 beyond limit (Following n) = nat_lt limit n
 beyond limit UnboundedFollowing = false
 
-abbrev pub is_unbounded_preceding : {D : Type 0} → WindowFrameBound D → Bool
+abbrev pub is_unbounded_preceding : WindowFrameBound → Bool
 is_unbounded_preceding UnboundedPreceding = true
 is_unbounded_preceding (Preceding n) = false
 is_unbounded_preceding CurrentRow = false
 is_unbounded_preceding (Following n) = false
 is_unbounded_preceding UnboundedFollowing = false
 
-abbrev pub is_unbounded_following : {D : Type 0} → WindowFrameBound D → Bool
+abbrev pub is_unbounded_following : WindowFrameBound → Bool
 is_unbounded_following UnboundedPreceding = false
 is_unbounded_following (Preceding n) = false
 is_unbounded_following CurrentRow = false

@@ -1,3 +1,4 @@
 pub mod Bounds
+pub mod PeerBounds
 pub mod Reasons
 pub mod Orders

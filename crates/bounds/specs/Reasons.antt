@@ -22,7 +22,7 @@ abbrev pub first_reason : List (Bool × ℕ) → Option ℕ
 first_reason [] = None
 first_reason (r ∷ rs) = cond r.0 (Some r.1) (first_reason rs)
 
-abbrev pub bound_reasons : ℕ → WindowFrameBound ℕ → WindowFrameBound ℕ → List (Bool × ℕ)
+abbrev pub bound_reasons : ℕ → WindowFrameBound → WindowFrameBound → List (Bool × ℕ)
 bound_reasons most start end =
     (is_unbounded_following start, 1)
     ∷ (is_unbounded_preceding end, 2)
@@ -31,5 +31,5 @@ bound_reasons most start end =
     ∷ []
 
 -- a distance needs order values
-abbrev pub order_reasons : {S : Type 0} → Option S → WindowFrameBound ℕ → WindowFrameBound ℕ → List (Bool × ℕ)
+abbrev pub order_reasons : {S : Type 0} → Option S → WindowFrameBound → WindowFrameBound → List (Bool × ℕ)
 order_reasons order start end = ((distant start || distant end) && not (is_some order), 5) ∷ []

@@ -1,50 +1,21 @@
 //! Bounds of a frame, as SQL writes them.
 
-ghost use Rattle.std.specs.Prelude.{◌≡◌, ℕ};
-ghost use Rattle.bounds.specs.Bounds.{counted, mirrored, offset, behind, beyond, distant, unbounded};
-
-/// What a bound counts in.
-pub trait Steps: Copy {
-    ghost count: { Self → ℕ };
-
-    fn steps(self) -> u64
-        ensures { result ≡ count self };
-}
-
-/// Rows, or how far two values of a measured kind lie apart.
-impl Steps for u64 {
-    ghost count = { λ n. n };
-
-    fn steps(self) -> u64 {
-        self
-    }
-}
-
-/// There is no distance between values that only have an order.
-#[derive(Clone, Copy)]
-pub enum NoDistance {}
-
-impl Steps for NoDistance {
-    ghost count = { λ _. 0 };
-
-    fn steps(self) -> u64 {
-        match self {}
-    }
-}
+ghost use Rattle.std.specs.Prelude.{◌≡◌};
+ghost use Rattle.bounds.specs.Bounds.{mirrored, offset, behind, beyond, distant, unbounded};
 
 /// Where a frame starts or ends, seen from its row.
 #[derive(Clone, Copy, PartialEq, Eq, Debug)]
-pub enum WindowFrameBound<D> {
+pub enum WindowFrameBound {
     UnboundedPreceding,
-    Preceding(D),
+    Preceding(u64),
     CurrentRow,
-    Following(D),
+    Following(u64),
     UnboundedFollowing,
 }
 
-impl<D: Steps> WindowFrameBound<D> {
+impl WindowFrameBound {
     /// The same bound where the rows come in reverse.
-    pub fn reverse(self) -> WindowFrameBound<D>
+    pub fn reverse(self) -> WindowFrameBound
         ensures value { result ≡ mirrored self }
         ensures twice { mirrored result ≡ self }
     {
@@ -78,29 +49,29 @@ impl<D: Steps> WindowFrameBound<D> {
 
     /// Whether the bound's number is over `most`.
     pub fn is_beyond(self, most: u64) -> bool
-        ensures { result ≡ beyond most (counted D.Steps.count self) }
+        ensures { result ≡ beyond most self }
     {
         match self {
-            WindowFrameBound::Preceding(n) | WindowFrameBound::Following(n) => n.steps() > most,
+            WindowFrameBound::Preceding(n) | WindowFrameBound::Following(n) => n > most,
             _ => false,
         }
     }
 
     /// How far behind its row the bound lies; before it, where this is negative.
     fn offset(self) -> Option<i128>
-        ensures { result ≡ offset (counted D.Steps.count self) }
+        ensures { result ≡ offset self }
     {
         match self {
-            WindowFrameBound::Preceding(n) => Some(-i128::from(n.steps())),
+            WindowFrameBound::Preceding(n) => Some(-i128::from(n)),
             WindowFrameBound::CurrentRow => Some(0),
-            WindowFrameBound::Following(n) => Some(i128::from(n.steps())),
+            WindowFrameBound::Following(n) => Some(i128::from(n)),
             _ => None,
         }
     }
 
     /// Whether a frame from here to `end` would run backwards.
-    pub fn is_behind(self, end: WindowFrameBound<D>) -> bool
-        ensures { result ≡ behind (counted D.Steps.count self) (counted D.Steps.count end) }
+    pub fn is_behind(self, end: WindowFrameBound) -> bool
+        ensures { result ≡ behind self end }
     {
         match (self.offset(), end.offset()) {
             (Some(from), Some(to)) => to < from,

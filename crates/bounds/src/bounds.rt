@@ -1,20 +1,20 @@
 //! The two bounds of a frame, checked.
 
 ghost use Rattle.std.specs.Prelude.{◌≡◌, false, IfOk};
-ghost use Rattle.bounds.specs.Bounds.{behind, beyond, counted, is_unbounded_following, is_unbounded_preceding, mirrored};
+ghost use Rattle.bounds.specs.Bounds.{behind, beyond, is_unbounded_following, is_unbounded_preceding, mirrored};
 ghost use Rattle.bounds.specs.Reasons.{bound_reasons, first_reason, reason_of};
 
-use crate::bound::{Steps, WindowFrameBound};
+use crate::bound::WindowFrameBound;
 use crate::reason::IllMade;
 
 /// Refuses two bounds with the first reason why they make no frame; none may lie more than `most` steps
 /// from its row.
-pub fn check_bounds<D: Steps>(
-    start: WindowFrameBound<D>,
-    end: WindowFrameBound<D>,
+pub fn check_bounds(
+    start: WindowFrameBound,
+    end: WindowFrameBound,
     most: u64,
 ) -> Result<(), IllMade>
-    ensures { reason_of result ≡ first_reason (bound_reasons most (counted D.Steps.count start) (counted D.Steps.count end)) }
+    ensures { reason_of result ≡ first_reason (bound_reasons most start end) }
 {
     if let WindowFrameBound::UnboundedFollowing = start {
         return Err(IllMade::StartUnboundedFollowing);
@@ -34,19 +34,15 @@ pub fn check_bounds<D: Steps>(
 /// A start and an end that make a frame.
 #[derive(Clone, Copy)]
 pub struct Bounds {
-    pub start: WindowFrameBound<u64>,
-    pub end: WindowFrameBound<u64>,
+    pub start: WindowFrameBound,
+    pub end: WindowFrameBound,
     ghost started: { is_unbounded_following start ≡ false },
     ghost ended: { is_unbounded_preceding end ≡ false },
     ghost forward: { behind start end ≡ false },
 }
 
 impl Bounds {
-    pub fn new(
-        start: WindowFrameBound<u64>,
-        end: WindowFrameBound<u64>,
-        most: u64,
-    ) -> Result<Bounds, IllMade>
+    pub fn new(start: WindowFrameBound, end: WindowFrameBound, most: u64) -> Result<Bounds, IllMade>
         ensures reason { reason_of result ≡ first_reason (bound_reasons most start end) }
         ensures bounds { IfOk result (λ b. (b.start ≡ start) × (b.end ≡ end)) }
     {

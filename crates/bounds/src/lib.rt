@@ -5,5 +5,6 @@
 
 pub mod bound;
 pub mod bounds;
+pub mod peer_bound;
 pub mod reason;
 pub mod sort;

@@ -1,5 +1,5 @@
 -- A frame where the rows come in reverse. Assumes nothing.
-use Rattle.std.specs.Prelude.{ℕ, Option}
+use Rattle.std.specs.Prelude.{Option}
 use Rattle.std.specs.Option.{option_map}
 use Rattle.bounds.specs.declared.sort.SortOptions.{SortOptions}
 use Rattle.bounds.specs.declared.bound.WindowFrameBound.{WindowFrameBound}
@@ -9,8 +9,8 @@ use Rattle.bounds.specs.Orders.{turned}
 
 -- the bounds of a frame and its sort order
 pub record Shape : Type 0 where
-  pub start : WindowFrameBound ℕ
-  pub end : WindowFrameBound ℕ
+  pub start : WindowFrameBound
+  pub end : WindowFrameBound
   pub order : Option SortOptions
 
 -- the bounds change places, and what precedes follows; the order is turned round

@@ -16,35 +16,35 @@ use Rattle.frames.specs.OrderLists.{coming}
 use Rattle.frames.specs.Waiting.{sure, unsure}
 
 -- ---- one bound
-start_rises : (a : WindowFrameBound ℕ) (L i : ℕ) → rows_start a L i ≤ rows_start a L (suc i)
+start_rises : (a : WindowFrameBound) (L i : ℕ) → rows_start a L i ≤ rows_start a L (suc i)
 start_rises UnboundedPreceding L i = omega arith
 start_rises (Preceding n) L i = omega arith
 start_rises CurrentRow L i = omega arith
 start_rises (Following n) L i = omega arith
 start_rises UnboundedFollowing L i = omega arith
 
-end_rises : (b : WindowFrameBound ℕ) (L i : ℕ) → rows_end b L i ≤ rows_end b L (suc i)
+end_rises : (b : WindowFrameBound) (L i : ℕ) → rows_end b L i ≤ rows_end b L (suc i)
 end_rises UnboundedPreceding L i = omega arith
 end_rises (Preceding n) L i = omega arith
 end_rises CurrentRow L i = omega arith
 end_rises (Following n) L i = omega arith
 end_rises UnboundedFollowing L i = omega arith
 
-end_within : (b : WindowFrameBound ℕ) (L i : ℕ) → rows_end b L i ≤ L
+end_within : (b : WindowFrameBound) (L i : ℕ) → rows_end b L i ≤ L
 end_within UnboundedPreceding L i = omega arith
 end_within (Preceding n) L i = omega arith
 end_within CurrentRow L i = omega arith
 end_within (Following n) L i = omega arith
 end_within UnboundedFollowing L i = omega arith
 
-start_excludes : (a : WindowFrameBound ℕ) (L i j : ℕ) → i < L → j < L → nat_le (rows_start a L i) j ≡ not (rows_start_excludes a i j)
+start_excludes : (a : WindowFrameBound) (L i j : ℕ) → i < L → j < L → nat_le (rows_start a L i) j ≡ not (rows_start_excludes a i j)
 start_excludes UnboundedPreceding L i j h k = grind (arith, nat_tests)
 start_excludes (Preceding n) L i j h k = grind (arith, nat_tests)
 start_excludes CurrentRow L i j h k = grind (arith, nat_tests)
 start_excludes (Following n) L i j h k = grind (arith, nat_tests)
 start_excludes UnboundedFollowing L i j h k = grind (arith, nat_tests)
 
-end_excludes : (b : WindowFrameBound ℕ) (L i j : ℕ) → i < L → j < L → nat_lt j (rows_end b L i) ≡ not (rows_end_excludes b i j)
+end_excludes : (b : WindowFrameBound) (L i j : ℕ) → i < L → j < L → nat_lt j (rows_end b L i) ≡ not (rows_end_excludes b i j)
 end_excludes UnboundedPreceding L i j h k = grind (arith, nat_tests)
 end_excludes (Preceding n) L i j h k = grind (arith, nat_tests)
 end_excludes CurrentRow L i j h k = grind (arith, nat_tests)
@@ -53,7 +53,7 @@ end_excludes UnboundedFollowing L i j h k = grind (arith, nat_tests)
 
 -- an end that is causal, or before the row count, is the same in a longer column
 module _ (L M i : ℕ) (h : i < L) (k : L ≤ M) where
-  end_stays : (b : WindowFrameBound ℕ) → (rows_causal b ≡ true) ⊎ (rows_end b L i < L) → rows_end b M i ≡ rows_end b L i
+  end_stays : (b : WindowFrameBound) → (rows_causal b ≡ true) ⊎ (rows_end b L i < L) → rows_end b M i ≡ rows_end b L i
   end_stays UnboundedPreceding c = refl
   end_stays (Preceding n) c = omega arith
   end_stays CurrentRow c = omega arith
@@ -61,11 +61,11 @@ module _ (L M i : ℕ) (h : i < L) (k : L ≤ M) where
   end_stays UnboundedFollowing c = ⊎_elim (λ e. absurd (false≢true e)) (λ l. absurd (omega arith)) c
 
 -- ---- two bounds, of which the start does not lie behind the end
-module _ (a b : WindowFrameBound ℕ) (first : is_unbounded_following a ≡ false) (final : is_unbounded_preceding b ≡ false) (forward : behind a b ≡ false) where
+module _ (a b : WindowFrameBound) (first : is_unbounded_following a ≡ false) (final : is_unbounded_preceding b ≡ false) (forward : behind a b ≡ false) where
   start_end : (L i : ℕ) → rows_start a L i ≤ rows_end b L i
   start_end = go a b first final forward
     where
-      go : (a b : WindowFrameBound ℕ) → is_unbounded_following a ≡ false → is_unbounded_preceding b ≡ false → behind a b ≡ false → (L i : ℕ) → rows_start a L i ≤ rows_end b L i
+      go : (a b : WindowFrameBound) → is_unbounded_following a ≡ false → is_unbounded_preceding b ≡ false → behind a b ≡ false → (L i : ℕ) → rows_start a L i ≤ rows_end b L i
       go UnboundedPreceding b x y f L i = omega arith
       go UnboundedFollowing b x y f L i = absurd (true≢false x)
       go (Preceding n) UnboundedPreceding x y f L i = absurd (true≢false y)
@@ -93,7 +93,7 @@ module _ (a b : WindowFrameBound ℕ) (first : is_unbounded_following a ≡ fals
       inner : rows_end b L i ≤ L
       inner = end_within b L i
 
-      go : (a : WindowFrameBound ℕ) → rows_start a M i ≤ rows_end b M i → rows_start a L i ≤ rows_end b L i → rows_start a M i ≡ rows_start a L i
+      go : (a : WindowFrameBound) → rows_start a M i ≤ rows_end b M i → rows_start a L i ≤ rows_end b L i → rows_start a M i ≡ rows_start a L i
       go UnboundedPreceding u v = refl
       go (Preceding n) u v = omega arith
       go CurrentRow u v = omega arith
@@ -104,7 +104,7 @@ module _ (a b : WindowFrameBound ℕ) (first : is_unbounded_following a ≡ fals
     whole : unbounded a && unbounded b ≡ true → (P : List (Option O)) (i : ℕ) → (rows_start a (length P) i ≡ 0) × (rows_end b (length P) i ≡ length P) × (rows_causal b ≡ false)
     whole = go a b first final
       where
-        go : (a b : WindowFrameBound ℕ) → is_unbounded_following a ≡ false → is_unbounded_preceding b ≡ false → unbounded a && unbounded b ≡ true
+        go : (a b : WindowFrameBound) → is_unbounded_following a ≡ false → is_unbounded_preceding b ≡ false → unbounded a && unbounded b ≡ true
             → (P : List (Option O)) (i : ℕ) → (rows_start a (length P) i ≡ 0) × (rows_end b (length P) i ≡ length P) × (rows_causal b ≡ false)
         go UnboundedPreceding UnboundedPreceding x y e P i = absurd (true≢false y)
         go UnboundedPreceding (Preceding n) x y e P i = absurd (false≢true e)
@@ -119,7 +119,7 @@ module _ (a b : WindowFrameBound ℕ) (first : is_unbounded_following a ≡ fals
     from_0 : unbounded a ≡ true → (L i : ℕ) → rows_start a L i ≡ 0
     from_0 = go a first
       where
-        go : (a : WindowFrameBound ℕ) → is_unbounded_following a ≡ false → unbounded a ≡ true → (L i : ℕ) → rows_start a L i ≡ 0
+        go : (a : WindowFrameBound) → is_unbounded_following a ≡ false → unbounded a ≡ true → (L i : ℕ) → rows_start a L i ≡ 0
         go UnboundedPreceding x e L i = refl
         go (Preceding n) x e L i = absurd (false≢true e)
         go CurrentRow x e L i = absurd (false≢true e)
@@ -129,7 +129,7 @@ module _ (a b : WindowFrameBound ℕ) (first : is_unbounded_following a ≡ fals
     open_end : rows_causal b || unbounded b ≡ true → rows_causal b ≡ false → (L i : ℕ) → rows_end b L i ≡ L
     open_end = go b final
       where
-        go : (b : WindowFrameBound ℕ) → is_unbounded_preceding b ≡ false → rows_causal b || unbounded b ≡ true → rows_causal b ≡ false → (L i : ℕ) → rows_end b L i ≡ L
+        go : (b : WindowFrameBound) → is_unbounded_preceding b ≡ false → rows_causal b || unbounded b ≡ true → rows_causal b ≡ false → (L i : ℕ) → rows_end b L i ≡ L
         go UnboundedPreceding y e c L i = absurd (true≢false y)
         go (Preceding n) y e c L i = absurd (true≢false c)
         go CurrentRow y e c L i = absurd (true≢false c)

@@ -8,14 +8,14 @@ use Rattle.frames.specs.Rules.{Rule}
 use Rattle.frames.specs.Standard.{rows_belongs}
 
 -- of L rows, where the frame of row i starts and ends
-abbrev pub rows_start : WindowFrameBound ℕ → ℕ → ℕ → ℕ
+abbrev pub rows_start : WindowFrameBound → ℕ → ℕ → ℕ
 rows_start UnboundedPreceding L i = 0
 rows_start (Preceding n) L i = min L (i - n)
 rows_start CurrentRow L i = min L i
 rows_start (Following n) L i = min L (i + n)
 rows_start UnboundedFollowing L i = L
 
-abbrev pub rows_end : WindowFrameBound ℕ → ℕ → ℕ → ℕ
+abbrev pub rows_end : WindowFrameBound → ℕ → ℕ → ℕ
 rows_end UnboundedPreceding L i = 0
 rows_end (Preceding n) L i = min L (suc i - n)
 rows_end CurrentRow L i = min L (suc i)
@@ -23,7 +23,7 @@ rows_end (Following n) L i = min L (suc i + n)
 rows_end UnboundedFollowing L i = L
 
 -- an end that no later row can reach
-abbrev pub rows_causal : WindowFrameBound ℕ → Bool
+abbrev pub rows_causal : WindowFrameBound → Bool
 rows_causal UnboundedPreceding = true
 rows_causal (Preceding n) = true
 rows_causal CurrentRow = true
@@ -31,7 +31,7 @@ rows_causal (Following n) = not (nat_lt 0 n)
 rows_causal UnboundedFollowing = false
 
 -- To n FOLLOWING, n ≥ 1, a row waits although its frame may be complete: the row n behind it is the last.
-abbrev pub rows_rule : {O : Type 0} → Option SortOptions → WindowFrameBound ℕ → WindowFrameBound ℕ → Rule O
+abbrev pub rows_rule : {O : Type 0} → Option SortOptions → WindowFrameBound → WindowFrameBound → Rule O
 rows_rule order start end = record {
   order = order;
   from_first = unbounded start;

@@ -27,8 +27,8 @@ pub struct RowsFrame {
 
 impl RowsFrame {
     pub fn new(
-        start: WindowFrameBound<u64>,
-        end: WindowFrameBound<u64>,
+        start: WindowFrameBound,
+        end: WindowFrameBound,
         order_by: Option<SortOptions>,
     ) -> Result<RowsFrame, IllMade>
         ensures reason { reason_of result ≡ first_reason (bound_reasons 4096 start end) }
@@ -40,7 +40,7 @@ impl RowsFrame {
 }
 
 /// Where the frame of a row of `len` starts.
-fn start_row(bound: WindowFrameBound<u64>, len: usize, row: usize) -> usize
+fn start_row(bound: WindowFrameBound, len: usize, row: usize) -> usize
     ensures { result ≡ rows_start bound len row }
 {
     match bound {
@@ -53,7 +53,7 @@ fn start_row(bound: WindowFrameBound<u64>, len: usize, row: usize) -> usize
 }
 
 /// Where it ends.
-fn end_row(bound: WindowFrameBound<u64>, len: usize, row: usize) -> usize
+fn end_row(bound: WindowFrameBound, len: usize, row: usize) -> usize
     ensures { result ≡ rows_end bound len row }
 {
     match bound {
@@ -68,7 +68,7 @@ fn end_row(bound: WindowFrameBound<u64>, len: usize, row: usize) -> usize
 }
 
 /// Whether a frame with this end never reaches behind its row.
-fn ends_by_its_row(bound: WindowFrameBound<u64>) -> bool
+fn ends_by_its_row(bound: WindowFrameBound) -> bool
     ensures { result ≡ rows_causal bound }
 {
     match bound {

@@ -28,7 +28,7 @@ by_nothing : (o : Option SortOptions) (z : Option ℤ) → moved o None z ≡ No
 by_nothing None z = refl
 by_nothing (Some s) z = refl
 
-module _ {O : Type 0} (keyed : O → ℕ) (base : ℕ) (o : Option SortOptions) (b : WindowFrameBound ℕ) where
+module _ {O : Type 0} (keyed : O → ℕ) (base : ℕ) (o : Option SortOptions) (b : WindowFrameBound) where
   -- from a row without an order value, or where the bound is UNBOUNDED
   pub no_value : (v : Option O) → v ≡ None → target keyed base o b v ≡ None
   no_value v e = ap (λ w. moved o (offset b) (place keyed base w)) e ∙ from_nowhere o (offset b)

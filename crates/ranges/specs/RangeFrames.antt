@@ -69,7 +69,7 @@ module _ {O : Type 0} (keyed : O → ℕ) (base : ℕ) where
       step true f = absurd (both_ways (precedes o (moved o x (seat P i)) r) (not-true (precedes o (moved o x (seat P i)) r) e) (end_back o P h x r i l f))
 
 -- ---- the frames of a rule
-module _ {O : Type 0} (keyed : O → ℕ) (base : ℕ) (o : Option SortOptions) (a b : WindowFrameBound ℕ) (W : WellMade o a b) where
+module _ {O : Type 0} (keyed : O → ℕ) (base : ℕ) (o : Option SortOptions) (a b : WindowFrameBound) (W : WellMade o a b) where
   abbrev rule : Rule O
   rule = range_rule keyed base o a b
 
@@ -120,7 +120,7 @@ module _ {O : Type 0} (keyed : O → ℕ) (base : ℕ) (o : Option SortOptions) 
     end_rises i = omega (arith, before_within i)
 
     -- a bound that takes in every row leads nowhere
-    nowhere : (c : WindowFrameBound ℕ) → all_rows o c ≡ true → (v : Option O) → target keyed base o c v ≡ None
+    nowhere : (c : WindowFrameBound) → all_rows o c ≡ true → (v : Option O) → target keyed base o c v ≡ None
     nowhere UnboundedPreceding e v = no_bound keyed base o UnboundedPreceding v refl
     nowhere (Preceding d) e v = absurd (false≢true e)
     nowhere CurrentRow e v = go o e
@@ -149,7 +149,7 @@ module _ {O : Type 0} (keyed : O → ℕ) (base : ℕ) (o : Option SortOptions) 
         unordered None e = refl
         unordered (Some s) e = absurd (false≢true e)
 
-        go : (b : WindowFrameBound ℕ) → all_rows o b ≡ true → (range_causal b ≡ false) × (range_closed keyed base o b P newest i ≡ false)
+        go : (b : WindowFrameBound) → all_rows o b ≡ true → (range_causal b ≡ false) × (range_closed keyed base o b P newest i ≡ false)
         go UnboundedPreceding e = (refl, refl)
         go (Preceding d) e = absurd (false≢true e)
         go CurrentRow e = (refl, unordered o e)
@@ -180,7 +180,7 @@ module _ {O : Type 0} (keyed : O → ℕ) (base : ℕ) (o : Option SortOptions) 
         front : ltb j (prefix_len (start_excludes keyed base o a (at P i)) P) ≡ start_excludes keyed base o a (at P i) (at P j)
         front = front_is (start_excludes keyed base o a (at P i)) P None (λ k j l m. down_start keyed base o P rises (target keyed base o a (at P i)) k j l m) j k
 
-        free : (c : WindowFrameBound ℕ) → unbounded c ≡ true → offset c ≡ None
+        free : (c : WindowFrameBound) → unbounded c ≡ true → offset c ≡ None
         free UnboundedPreceding e = refl
         free (Preceding n) e = absurd (false≢true e)
         free CurrentRow e = absurd (false≢true e)
@@ -270,7 +270,7 @@ module _ {O : Type 0} (keyed : O → ℕ) (base : ℕ) (o : Option SortOptions) 
             level : d ≡ 0 → offset (Preceding d) ≡ Some (pos 0)
             level z = ap (λ n. offset (Preceding n)) z
 
-        go : (x : WindowFrameBound ℕ) → b ≡ x → (range_causal x ≡ true) ⊎ (range_closed keyed base o x P newest i ≡ true) → Removed
+        go : (x : WindowFrameBound) → b ≡ x → (range_causal x ≡ true) ⊎ (range_closed keyed base o x P newest i ≡ true) → Removed
         go UnboundedPreceding e c = absurd (⊎_elim (λ f. false≢true f) (λ f. false≢true f) c)
         go (Preceding d) e c = back d e (nat_lt 0 d) refl c
         go CurrentRow e c = ⊎_elim (λ f. absurd (false≢true f)) (λ k. by_last_row (ap offset e) k) c
@@ -316,7 +316,7 @@ module _ {O : Type 0} (keyed : O → ℕ) (base : ℕ) (o : Option SortOptions) 
   closed_before : (P : List (Option O)) (newest : Option O) (i : ℕ) → suc i < length P → InOrder keyed o P → range_closed keyed base o b P newest (suc i) ≡ true → range_closed keyed base o b P newest i ≡ true
   closed_before P newest i h r c = go b c
     where
-      go : (b : WindowFrameBound ℕ) → range_closed keyed base o b P newest (suc i) ≡ true → range_closed keyed base o b P newest i ≡ true
+      go : (b : WindowFrameBound) → range_closed keyed base o b P newest (suc i) ≡ true → range_closed keyed base o b P newest i ≡ true
       go UnboundedPreceding c = c
       go (Preceding d) c = c
       go CurrentRow c = c
@@ -343,7 +343,7 @@ module _ {O : Type 0} (keyed : O → ℕ) (base : ℕ) (o : Option SortOptions) 
       newest_stays : before keyed o (last P) newest ≡ true → range_causal b ≡ false → range_closed keyed base o b P newest i ≡ false → stays (at P i) newest ≡ true
       newest_stays l c n = go b refl c n
         where
-          go : (x : WindowFrameBound ℕ) → b ≡ x → range_causal x ≡ false → range_closed keyed base o x P newest i ≡ false → stays (at P i) newest ≡ true
+          go : (x : WindowFrameBound) → b ≡ x → range_causal x ≡ false → range_closed keyed base o x P newest i ≡ false → stays (at P i) newest ≡ true
           go UnboundedPreceding e c n = absurd (both_ways (is_unbounded_preceding b) W.ended (ap is_unbounded_preceding e))
           go (Preceding d) e c n = absurd (both_ways (before keyed o (last P) newest) (sym (ap (λ t. cond t (is_some o) (row_ahead keyed o P newest)) c) ∙ n) l)
           go CurrentRow e c n = absurd (both_ways (before keyed o (last P) newest) n l)

@@ -10,14 +10,14 @@ use Rattle.ranges.specs.Scans.{first_from}
 use Rattle.frames.specs.Standard.{start_excludes, end_excludes, range_belongs}
 
 -- two bounds that make a frame
-pub record WellMade (order : Option SortOptions) (start end : WindowFrameBound ℕ) : Type 0 where
+pub record WellMade (order : Option SortOptions) (start end : WindowFrameBound) : Type 0 where
   pub started : is_unbounded_following start ≡ false
   pub ended : is_unbounded_preceding end ≡ false
   pub forward : behind start end ≡ false
   pub measured : (distant start || distant end) && not (is_some order) ≡ false
 
 -- an end that lies before its row
-abbrev pub range_causal : WindowFrameBound ℕ → Bool
+abbrev pub range_causal : WindowFrameBound → Bool
 range_causal UnboundedPreceding = false
 range_causal (Preceding d) = nat_lt 0 d
 range_causal CurrentRow = false
@@ -25,7 +25,7 @@ range_causal (Following d) = false
 range_causal UnboundedFollowing = false
 
 -- a bound that takes in every row: UNBOUNDED, or CURRENT ROW without order values
-abbrev pub all_rows : Option SortOptions → WindowFrameBound ℕ → Bool
+abbrev pub all_rows : Option SortOptions → WindowFrameBound → Bool
 all_rows order UnboundedPreceding = true
 all_rows order (Preceding d) = false
 all_rows order CurrentRow = not (is_some order)
@@ -33,7 +33,7 @@ all_rows order (Following d) = false
 all_rows order UnboundedFollowing = true
 
 module _ {O : Type 0} (keyed : O → ℕ) (base : ℕ) (order : Option SortOptions) where
-  abbrev pub range_closed : WindowFrameBound ℕ → List (Option O) → Option O → ℕ → Bool
+  abbrev pub range_closed : WindowFrameBound → List (Option O) → Option O → ℕ → Bool
   range_closed UnboundedPreceding P newest i = false
   range_closed (Preceding d) P newest i = cond (nat_lt 0 d) (is_some order) (row_ahead keyed order P newest)
   range_closed CurrentRow P newest i = row_ahead keyed order P newest
@@ -42,7 +42,7 @@ module _ {O : Type 0} (keyed : O → ℕ) (base : ℕ) (order : Option SortOptio
 
   -- The start is the first row, from the previous start on, that the start bound does not exclude; the end the first, from the previous
   -- end on, that the end bound excludes.
-  abbrev pub range_rule : WindowFrameBound ℕ → WindowFrameBound ℕ → Rule O
+  abbrev pub range_rule : WindowFrameBound → WindowFrameBound → Rule O
   range_rule start end = record {
     order = order;
     from_first = unbounded start;

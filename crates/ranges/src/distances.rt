@@ -28,8 +28,8 @@ pub struct Distances {
 
 impl Distances {
     pub fn new(
-        start: WindowFrameBound<u64>,
-        end: WindowFrameBound<u64>,
+        start: WindowFrameBound,
+        end: WindowFrameBound,
         order_by: Option<SortOptions>,
     ) -> Result<Distances, IllMade>
         ensures reason { reason_of result ≡ first_reason (bound_reasons 2147483647 start end ++ order_reasons order_by start end) }
@@ -59,7 +59,7 @@ fn shifted(place: i64, by: i64, sort: SortOptions) -> i64
 }
 
 /// The place that a bound leads to from `place`; it may lie outside the kind.
-fn target(bound: WindowFrameBound<u64>, place: i64, sort: SortOptions) -> Option<i64>
+fn target(bound: WindowFrameBound, place: i64, sort: SortOptions) -> Option<i64>
     requires bound_value { beyond 2147483647 bound ≡ false }
     requires negsuc_bound { negsuc (2147483647) ≤ℤ place }
     requires place_bound { place <ℤ pos (2 ^ 32) }
@@ -88,11 +88,11 @@ impl<O: Measured> RangeUnits<O> for Distances {
         self.order_by
     }
 
-    fn start_bound(&self) -> WindowFrameBound<u64> {
+    fn start_bound(&self) -> WindowFrameBound {
         self.bounds.start
     }
 
-    fn end_bound(&self) -> WindowFrameBound<u64> {
+    fn end_bound(&self) -> WindowFrameBound {
         self.bounds.end
     }
 

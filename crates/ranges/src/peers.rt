@@ -1,13 +1,15 @@
 //! RANGE by peers, for every ordered kind: CURRENT ROW and UNBOUNDED.
 
 ghost use Rattle.std.specs.Prelude.{◌≡◌, false, IfOk};
-ghost use Rattle.bounds.specs.Bounds.{counted, is_unbounded_following, is_unbounded_preceding};
+ghost use Rattle.bounds.specs.Bounds.{is_unbounded_following, is_unbounded_preceding};
+ghost use Rattle.bounds.specs.PeerBounds.{as_bound};
 ghost use Rattle.bounds.specs.Reasons.{bound_reasons, first_reason, reason_of};
 ghost use Rattle.std.proofs.Common.{rules, arith};
 
 use crate::units::RangeUnits;
-use bounds::bound::{NoDistance, WindowFrameBound};
+use bounds::bound::WindowFrameBound;
 use bounds::bounds::check_bounds;
+use bounds::peer_bound::PeerBound;
 use bounds::reason::IllMade;
 use bounds::sort::SortOptions;
 use kinds::ordered::Ordered;
@@ -15,23 +17,23 @@ use kinds::ordered::Ordered;
 /// The frame of a row goes by the rows that are its equals in the order.
 #[derive(Clone, Copy)]
 pub struct Peers {
-    pub start: WindowFrameBound<NoDistance>,
-    pub end: WindowFrameBound<NoDistance>,
+    pub start: PeerBound,
+    pub end: PeerBound,
     pub order_by: Option<SortOptions>,
-    ghost started: { is_unbounded_following start ≡ false },
-    ghost ended: { is_unbounded_preceding end ≡ false },
+    ghost started: { is_unbounded_following (as_bound start) ≡ false },
+    ghost ended: { is_unbounded_preceding (as_bound end) ≡ false },
 }
 
 impl Peers {
     pub fn new(
-        start: WindowFrameBound<NoDistance>,
-        end: WindowFrameBound<NoDistance>,
+        start: PeerBound,
+        end: PeerBound,
         order_by: Option<SortOptions>,
     ) -> Result<Peers, IllMade>
-        ensures reason { reason_of result ≡ first_reason (bound_reasons 0 (counted (λ _. 0) start) (counted (λ _. 0) end)) }
+        ensures reason { reason_of result ≡ first_reason (bound_reasons 0 (as_bound start) (as_bound end)) }
         ensures frame { IfOk result (λ f. (f.start ≡ start) × (f.end ≡ end) × (f.order_by ≡ order_by)) }
     {
-        check_bounds(start, end, 0)?;
+        check_bounds(start.into(), end.into(), 0)?;
         Ok(Peers {
             start,
             end,
@@ -40,27 +42,14 @@ impl Peers {
     }
 }
 
-/// The bound with a number, which there is not.
-fn numbered(bound: WindowFrameBound<NoDistance>) -> WindowFrameBound<u64>
-    ensures { result ≡ counted (λ _. 0) bound }
-{
-    match bound {
-        WindowFrameBound::UnboundedPreceding => WindowFrameBound::UnboundedPreceding,
-        WindowFrameBound::Preceding(d) => match d {},
-        WindowFrameBound::CurrentRow => WindowFrameBound::CurrentRow,
-        WindowFrameBound::Following(d) => match d {},
-        WindowFrameBound::UnboundedFollowing => WindowFrameBound::UnboundedFollowing,
-    }
-}
-
 impl<O: Ordered> RangeUnits<O> for Peers {
     ghost base = { 0 };
 
     ghost order = { λ u. u.order_by };
 
-    ghost start = { λ u. counted (λ _. 0) u.start };
+    ghost start = { λ u. as_bound u.start };
 
-    ghost end = { λ u. counted (λ _. 0) u.end };
+    ghost end = { λ u. as_bound u.end };
 
     ghost well = { first_of (Prim.search rules, Prim.grind (arith, Self.row.coded.inj)) };
 
@@ -68,30 +57,24 @@ impl<O: Ordered> RangeUnits<O> for Peers {
         self.order_by
     }
 
-    fn start_bound(&self) -> WindowFrameBound<u64> {
-        numbered(self.start)
+    fn start_bound(&self) -> WindowFrameBound {
+        self.start.into()
     }
 
-    fn end_bound(&self) -> WindowFrameBound<u64> {
-        numbered(self.end)
+    fn end_bound(&self) -> WindowFrameBound {
+        self.end.into()
     }
 
     fn is_before_start(&self, here: O, value: O) -> bool {
         match (self.order_by, self.start) {
-            (Some(sort), WindowFrameBound::CurrentRow) => sort.is_key_before(
-                value.key(),
-                here.key(),
-            ),
+            (Some(sort), PeerBound::CurrentRow) => sort.is_key_before(value.key(), here.key()),
             _ => false,
         }
     }
 
     fn is_behind_end(&self, here: O, value: O) -> bool {
         match (self.order_by, self.end) {
-            (Some(sort), WindowFrameBound::CurrentRow) => sort.is_key_before(
-                here.key(),
-                value.key(),
-            ),
+            (Some(sort), PeerBound::CurrentRow) => sort.is_key_before(here.key(), value.key()),
             _ => false,
         }
     }

@@ -125,7 +125,7 @@ fn is_target_passed<O: Ordered, U: RangeUnits<O>>(
 }
 
 /// Whether a bound takes in every row on its side.
-fn takes_all(bound: WindowFrameBound<u64>, order_by: Option<SortOptions>) -> bool
+fn takes_all(bound: WindowFrameBound, order_by: Option<SortOptions>) -> bool
     ensures { result ≡ all_rows order_by bound }
 {
     match bound {

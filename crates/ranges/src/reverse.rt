@@ -1,7 +1,7 @@
 //! RANGE frames of the same rows where they come in reverse.
 
 ghost use Rattle.std.specs.Prelude.{◌≡◌};
-ghost use Rattle.bounds.specs.Bounds.{counted};
+ghost use Rattle.bounds.specs.PeerBounds.{as_bound};
 ghost use Rattle.frames.specs.Mirrors.{Shape, mirror};
 ghost use Rattle.ranges.specs.WindowFrames.{either_shape};
 
@@ -12,7 +12,7 @@ use crate::window_frame::WindowFrame;
 use frames::reverse::{Reverse, reverse_order};
 
 impl Reverse for Peers {
-    ghost shape = { λ f. record { start = counted (λ _. 0) f.start; end = counted (λ _. 0) f.end; order = f.order_by } };
+    ghost shape = { λ f. record { start = as_bound f.start; end = as_bound f.end; order = f.order_by } };
 
     fn reverse(&self) -> Peers {
         Peers {

@@ -17,17 +17,17 @@ pub trait RangeUnits<O: Ordered>: Copy {
 
     ghost order: { Self → Opt Sort };
 
-    ghost start: { Self → Bound ℕ };
+    ghost start: { Self → Bound };
 
-    ghost end: { Self → Bound ℕ };
+    ghost end: { Self → Bound };
 
     fn order_by(&self) -> Option<SortOptions>
         ensures { result ≡ order self.now };
 
-    fn start_bound(&self) -> WindowFrameBound<u64>
+    fn start_bound(&self) -> WindowFrameBound
         ensures { result ≡ start self.now };
 
-    fn end_bound(&self) -> WindowFrameBound<u64>
+    fn end_bound(&self) -> WindowFrameBound
         ensures { result ≡ end self.now };
 
     /// Whether `value` sorts before the target of the start, seen from a row with the value `here`.
