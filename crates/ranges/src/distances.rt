@@ -45,10 +45,10 @@ impl Distances {
 
 /// A place moved along the order.
 fn shifted(place: i64, by: i64, sort: SortOptions) -> i64
-    requires negsuc_bound { negsuc (2147483647) ≤ℤ place }
-    requires place_bound { place <ℤ pos (2 ^ 32) }
-    requires negsuc_bound_2 { negsuc (2147483647) ≤ℤ by }
-    requires by_bound { by <ℤ pos (2 ^ 31) }
+    requires place_low { negsuc (2147483647) ≤ℤ place }
+    requires place_high { place <ℤ pos (2 ^ 32) }
+    requires by_low { negsuc (2147483647) ≤ℤ by }
+    requires by_high { by <ℤ pos (2 ^ 31) }
     ensures { result ≡ (if sort.descending then place -ℤ by else place +ℤ by) }
 {
     if sort.descending {
@@ -60,9 +60,9 @@ fn shifted(place: i64, by: i64, sort: SortOptions) -> i64
 
 /// The place that a bound leads to from `place`; it may lie outside the kind.
 fn target(bound: WindowFrameBound, place: i64, sort: SortOptions) -> Option<i64>
-    requires bound_value { beyond 2147483647 bound ≡ false }
-    requires negsuc_bound { negsuc (2147483647) ≤ℤ place }
-    requires place_bound { place <ℤ pos (2 ^ 32) }
+    requires near { beyond 2147483647 bound ≡ false }
+    requires place_low { negsuc (2147483647) ≤ℤ place }
+    requires place_high { place <ℤ pos (2 ^ 32) }
     ensures { result ≡ moved (Val sort) (offset bound) (Val place) }
 {
     match bound {
