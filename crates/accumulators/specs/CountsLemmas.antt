@@ -5,7 +5,7 @@ use Rattle.rows.specs.Rows.{non_null}
 use Rattle.accumulators.specs.Figures.{most_rows, Lawful, Retracting, Within, rows_held}
 use Rattle.accumulators.specs.Counts.{count, count_retracted}
 use Rattle.rows.proofs.Lists.{present_few}
-use Rattle.accumulators.specs.Lists.{present-append}
+use Rattle.accumulators.specs.Lists.{length-non_null-append}
 use Rattle.accumulators.specs.Laws.{lawful_within, retracting_within}
 
 -- rows and those not missing, with a batch behind
@@ -13,14 +13,14 @@ pub rows_more : {V : Type 0} (xs ys : List (Option V)) → length xs + length ys
 rows_more xs ys = sym (length-append xs ys)
 
 pub present_more : {V : Type 0} (xs ys : List (Option V)) → length xs + length ys ≤ most_rows → (length (non_null xs) + length (non_null ys)) % 2 ^ 64 ≡ length (non_null (xs ++ ys))
-present_more xs ys h = omega (arith, present-append xs ys, present_few xs, present_few ys)
+present_more xs ys h = omega (arith, length-non_null-append xs ys, present_few xs, present_few ys)
 
 -- and with their oldest part dropped
 pub rows_less : {V : Type 0} (xs ys : List (Option V)) → length (xs ++ ys) - length xs ≡ length ys
 rows_less xs ys = omega (arith, length-append xs ys)
 
 pub present_less : {V : Type 0} (xs ys : List (Option V)) → length (non_null (xs ++ ys)) - length (non_null xs) ≡ length (non_null ys)
-present_less xs ys = omega (arith, present-append xs ys)
+present_less xs ys = omega (arith, length-non_null-append xs ys)
 
 pub enough : {V : Type 0} (xs ys : List (Option V)) → nat_lt (length (xs ++ ys)) (length xs) ≡ false
 enough xs ys = le-ltb (length (xs ++ ys)) (length xs) (omega (arith, length-append xs ys))
