@@ -5,8 +5,7 @@ use Rattle.std.proofs.Common.{◌∙◌, append_assoc, append-nil, inl, inr, ari
 use Rattle.std.specs.Option.{option_map}
 use Rattle.std.proofs.lemmas.Bool.{cases_lt}
 use Rattle.std.proofs.lemmas.List.{map-append, length-map, length-drop, length-take, drop_all, take_all}
-use Rattle.rows.specs.Rows.{Row, kept}
-use Rattle.rows.specs.Rows.{non_null}
+use Rattle.rows.specs.Rows.{Row, kept, non_null}
 use Rattle.accumulators.specs.Figures.{most_kept, Lawful, Retracting, Within, rows_held}
 use Rattle.accumulators.specs.Extremes.{best, one_or_0, key_or_0}
 use Rattle.accumulators.specs.SlidingExtremes.{sliding_extreme, oldest_dropped, pairs, keys_in}

@@ -9,9 +9,3 @@ abbrev pub as_bound : PeerBound → WindowFrameBound
 as_bound UnboundedPreceding = bound.UnboundedPreceding
 as_bound CurrentRow = bound.CurrentRow
 as_bound UnboundedFollowing = bound.UnboundedFollowing
-
--- the same bound where the rows come in reverse
-abbrev pub mirrored_peer : PeerBound → PeerBound
-mirrored_peer UnboundedPreceding = UnboundedFollowing
-mirrored_peer CurrentRow = CurrentRow
-mirrored_peer UnboundedFollowing = UnboundedPreceding

@@ -1,7 +1,7 @@
 //! Bounds that count nothing, for kinds that have an order and no distance.
 
 ghost use Rattle.std.specs.Prelude.{◌≡◌};
-ghost use Rattle.bounds.specs.PeerBounds.{as_bound, mirrored_peer};
+ghost use Rattle.bounds.specs.PeerBounds.{as_bound};
 ghost use Rattle.bounds.specs.Bounds.{mirrored};
 
 use crate::bound::WindowFrameBound;
@@ -18,7 +18,7 @@ impl PeerBound {
     /// The same bound where the rows come in reverse.
     pub fn reverse(self) -> PeerBound
         ensures value { as_bound result ≡ mirrored (as_bound self) }
-        ensures twice { mirrored_peer result ≡ self }
+        ensures twice { mirrored (as_bound result) ≡ as_bound self }
     {
         match self {
             PeerBound::UnboundedPreceding => PeerBound::UnboundedFollowing,

@@ -1,7 +1,6 @@
 -- A loop over the rows of a batch: what is counted and gathered so far, and what is left. Assumes nothing.
 use Rattle.std.proofs.Common.{◌≡◌, ℕ, suc, ◌+◌, ◌≤◌, List, [], ◌∷◌, ◌++◌, length, drop, Some, None, fold, Option, sym, ap, ◌∙◌, add-one, arith, length-append}
-use Rattle.rows.specs.Rows.{Row, kept}
-use Rattle.rows.specs.Rows.{non_null}
+use Rattle.rows.specs.Rows.{Row, kept, non_null}
 use Rattle.rows.proofs.Lists.{fold-append, non_null-append}
 use Rattle.std.proofs.lemmas.List.{drop_all}
 

@@ -2,9 +2,8 @@
 
 ghost use Rattle.std.specs.Prelude.{◌≡◌, ℕ, suc, ◌-◌, ◌<◌, ◌≤◌, ◌++◌, length, take, drop, fold};
 ghost use Rattle.std.specs.Option.{option_to_list};
-ghost use Rattle.rows.specs.Rows.{kept, mask_bytes, optional, rows};
+ghost use Rattle.rows.specs.Rows.{kept, mask_bytes, non_null, optional, rows};
 ghost use Rattle.rows.specs.Batches.{rows_of, batch};
-ghost use Rattle.rows.specs.Rows.{non_null};
 ghost use Rattle.rows.specs.Lengths.{Measures};
 
 use crate::arguments::Arguments;
