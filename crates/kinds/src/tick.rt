@@ -7,8 +7,6 @@ ghost use Rattle.std.proofs.Common.{rules};
 
 use crate::ordered::{Measured, Ordered};
 
-const GREATEST_KEY: u64 = 0xffff_ffff;
-
 impl Ordered for u32 {
     ghost fits = { λ v. v < 2 ^ 32 };
 
@@ -29,7 +27,7 @@ impl Ordered for u32 {
     }
 
     fn from_key(key: u64) -> u32 {
-        key.min(GREATEST_KEY) as u32
+        u32::try_from(key).unwrap_or(u32::MAX)
     }
 }
 

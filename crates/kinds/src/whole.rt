@@ -11,8 +11,6 @@ use crate::ordered::{Measured, Ordered};
 /// The key of 0.
 const BASE: i64 = 0x8000_0000;
 
-const GREATEST_KEY: u64 = 0xffff_ffff;
-
 impl Ordered for i32 {
     ghost fits = { λ v. FitsSigned w32 v };
 
@@ -33,7 +31,7 @@ impl Ordered for i32 {
     }
 
     fn from_key(key: u64) -> i32 {
-        (key.min(GREATEST_KEY) as i64 - BASE) as i32
+        (i64::from(u32::from_key(key)) - BASE) as i32
     }
 }
 
@@ -46,6 +44,6 @@ impl Measured for i32 {
         ensures high { result <ℤ pos (2 ^ 32) }
         ensures own { result ≡ self }
     {
-        self as i64
+        i64::from(self)
     }
 }
