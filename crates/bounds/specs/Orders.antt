@@ -1,8 +1,7 @@
 -- The order of rows (docs/RULES.md, section 5.2). Assumes nothing.
-use Rattle.std.specs.Prelude.{◌≡◌, ℕ, ◌-◌, Bool, true, false, not, List, [], ◌∷◌, length, ℤ, is_some, Some, None, Option, int_lt, slice_index_or}
+use Rattle.std.specs.Prelude.{◌≡◌, ℕ, All, ◌-◌, Bool, true, false, not, List, [], ◌∷◌, length, ℤ, is_some, Some, None, Option, int_lt, slice_index_or}
 use Rattle.std.proofs.Math.IntN.{sub_ℕ}
 use Rattle.std.specs.Option.{option_map}
-use Rattle.std.specs.List.{AllByRecursion}
 use Rattle.bounds.specs.declared.sort.SortOptions.{SortOptions}
 
 abbrev pub turned : SortOptions → SortOptions
@@ -42,7 +41,7 @@ module _ {O : Type 0} (keyed : O → ℕ) where
 
   -- no row sorts before this one
   abbrev pub NoneBefore : Option SortOptions → Option O → List (Option O) → Type 0
-  NoneBefore order v rows = AllByRecursion (λ w. before order w v ≡ false) rows
+  NoneBefore order v rows = All (λ w. before order w v ≡ false) rows
 
   abbrev pub Rising : Option SortOptions → List (Option O) → Type 0
   Rising order [] = Unit {0}
@@ -51,4 +50,4 @@ module _ {O : Type 0} (keyed : O → ℕ) where
   -- a column in order: where there is one, each row has an order value, and no row sorts before an earlier one
   abbrev pub InOrder : Option SortOptions → List (Option O) → Type 0
   InOrder None rows = Unit {0}
-  InOrder (Some s) rows = AllByRecursion (λ v. is_some v ≡ true) rows × Rising (Some s) rows
+  InOrder (Some s) rows = All (λ v. is_some v ≡ true) rows × Rising (Some s) rows

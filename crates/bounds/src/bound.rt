@@ -31,30 +31,30 @@ impl WindowFrameBound {
     pub fn is_unbounded(self) -> bool
         ensures { result ≡ unbounded self }
     {
-        match self {
-            WindowFrameBound::UnboundedPreceding | WindowFrameBound::UnboundedFollowing => true,
-            _ => false,
-        }
+        matches!(
+            self,
+            WindowFrameBound::UnboundedPreceding | WindowFrameBound::UnboundedFollowing
+        )
     }
 
     /// Whether the bound lies a number of steps from its row, were it 0.
     pub fn is_distant(self) -> bool
         ensures { result ≡ distant self }
     {
-        match self {
-            WindowFrameBound::Preceding(_) | WindowFrameBound::Following(_) => true,
-            _ => false,
-        }
+        matches!(
+            self,
+            WindowFrameBound::Preceding(_) | WindowFrameBound::Following(_)
+        )
     }
 
     /// Whether the bound's number is over `most`.
     pub fn is_beyond(self, most: u64) -> bool
         ensures { result ≡ beyond most self }
     {
-        match self {
-            WindowFrameBound::Preceding(n) | WindowFrameBound::Following(n) => n > most,
-            _ => false,
-        }
+        matches!(
+            self,
+            WindowFrameBound::Preceding(n) | WindowFrameBound::Following(n) if n > most
+        )
     }
 
     /// How far behind its row the bound lies; before it, where this is negative.

@@ -1,8 +1,9 @@
 //! The two bounds of a frame, checked.
 
 ghost use Rattle.std.specs.Prelude.{◌≡◌, false, IfOk};
+ghost use Rattle.std.specs.Result.{result_err};
 ghost use Rattle.bounds.specs.Bounds.{behind, beyond, is_unbounded_following, is_unbounded_preceding, mirrored};
-ghost use Rattle.bounds.specs.Reasons.{bound_reasons, first_reason, reason_of};
+ghost use Rattle.bounds.specs.Reasons.{bound_reasons, first_reason};
 
 use crate::bound::WindowFrameBound;
 use crate::reason::IllMade;
@@ -14,12 +15,12 @@ pub fn check_bounds(
     end: WindowFrameBound,
     most: u64,
 ) -> Result<(), IllMade>
-    ensures { reason_of result ≡ first_reason (bound_reasons most start end) }
+    ensures { result_err result ≡ first_reason (bound_reasons most start end) }
 {
-    if let WindowFrameBound::UnboundedFollowing = start {
+    if start == WindowFrameBound::UnboundedFollowing {
         return Err(IllMade::StartUnboundedFollowing);
     }
-    if let WindowFrameBound::UnboundedPreceding = end {
+    if end == WindowFrameBound::UnboundedPreceding {
         return Err(IllMade::EndUnboundedPreceding);
     }
     if start.is_behind(end) {
@@ -43,7 +44,7 @@ pub struct Bounds {
 
 impl Bounds {
     pub fn new(start: WindowFrameBound, end: WindowFrameBound, most: u64) -> Result<Bounds, IllMade>
-        ensures reason { reason_of result ≡ first_reason (bound_reasons most start end) }
+        ensures reason { result_err result ≡ first_reason (bound_reasons most start end) }
         ensures bounds { IfOk result (λ b. (b.start ≡ start) × (b.end ≡ end)) }
     {
         check_bounds(start, end, most)?;

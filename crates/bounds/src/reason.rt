@@ -3,18 +3,23 @@
 ghost use Rattle.std.specs.Prelude.{◌≡◌};
 ghost use Rattle.bounds.specs.Reasons.{number};
 
-use std::error::Error;
-use std::fmt;
+use thiserror::Error;
 
-/// The reasons, in the order in which they are looked for.
-#[derive(Clone, Copy, PartialEq, Eq, Debug)]
+/// The reasons, numbered in the order in which they are looked for.
+#[derive(Clone, Copy, PartialEq, Eq, Debug, Error)]
 pub enum IllMade {
-    StartUnboundedFollowing,
-    EndUnboundedPreceding,
-    StartBehindEnd,
-    TooFar,
-    DistanceWithoutOrder,
-    PlainMovingStart,
+    #[error("the frame starts at UNBOUNDED FOLLOWING")]
+    StartUnboundedFollowing = 1,
+    #[error("the frame ends at UNBOUNDED PRECEDING")]
+    EndUnboundedPreceding = 2,
+    #[error("the frame starts behind its end")]
+    StartBehindEnd = 3,
+    #[error("a bound lies too far from its row")]
+    TooFar = 4,
+    #[error("a distance asks for order values")]
+    DistanceWithoutOrder = 5,
+    #[error("a plain expression cannot let rows go")]
+    PlainMovingStart = 6,
 }
 
 impl IllMade {
@@ -22,31 +27,6 @@ impl IllMade {
     pub fn number(self) -> u8
         ensures { result ≡ number self }
     {
-        match self {
-            IllMade::StartUnboundedFollowing => 1,
-            IllMade::EndUnboundedPreceding => 2,
-            IllMade::StartBehindEnd => 3,
-            IllMade::TooFar => 4,
-            IllMade::DistanceWithoutOrder => 5,
-            IllMade::PlainMovingStart => 6,
-        }
+        self as u8
     }
 }
-
-impl fmt::Display for IllMade {
-    fn fmt<W: fmt::Write>(&self, f: &mut fmt::Formatter<W>) -> fmt::Result {
-        match self {
-            IllMade::StartUnboundedFollowing => write!(
-                f,
-                "the frame starts at UNBOUNDED FOLLOWING"
-            ),
-            IllMade::EndUnboundedPreceding => write!(f, "the frame ends at UNBOUNDED PRECEDING"),
-            IllMade::StartBehindEnd => write!(f, "the frame starts behind its end"),
-            IllMade::TooFar => write!(f, "a bound lies too far from its row"),
-            IllMade::DistanceWithoutOrder => write!(f, "a distance asks for order values"),
-            IllMade::PlainMovingStart => write!(f, "a plain expression cannot let rows go"),
-        }
-    }
-}
-
-impl Error for IllMade {}

@@ -1,6 +1,6 @@
 //! Sort orders.
 
-ghost use Rattle.std.specs.Prelude.{◌≡◌, pos};
+ghost use Rattle.std.specs.Prelude.{◌≡◌};
 ghost use Rattle.bounds.specs.Orders.{sorts_before, turned};
 
 /// The direction in which the order values of a partition run.
@@ -20,19 +20,8 @@ impl SortOptions {
         }
     }
 
-    /// Whether a row with the one key sorts before a row with the other.
-    pub fn is_key_before(self, key: u64, other: u64) -> bool
-        ensures { result ≡ sorts_before self.descending (pos key) (pos other) }
-    {
-        if self.descending {
-            other < key
-        } else {
-            key < other
-        }
-    }
-
-    /// Whether a row with the one place sorts before a row with the other.
-    pub fn is_place_before(self, place: i64, other: i64) -> bool
+    /// Whether a row with the one key or place sorts before a row with the other.
+    pub fn is_before(self, place: i128, other: i128) -> bool
         ensures { result ≡ sorts_before self.descending place other }
     {
         if self.descending {

@@ -1,13 +1,14 @@
 -- The frames of a partition that is still open, row by row. Assumes nothing.
-use Rattle.std.specs.Prelude.{◌≡◌, ℕ, zero, suc, ◌<◌, ◌≤◌, true, false, not, List, [], ◌∷◌, ◌++◌, length, Option}
+use Rattle.std.specs.Prelude.{◌≡◌, ℕ, zero, suc, ◌<◌, ◌≤◌, true, false, cond, List, [], ◌∷◌, ◌++◌, length, Option}
 use Rattle.frames.specs.declared.frame.RowFrame.{RowFrame}
+use Rattle.frames.specs.declared.frame.RowFrame.TheVariants.{Complete, Waiting}
 use Rattle.bounds.specs.Orders.{InOrder}
 use Rattle.frames.specs.Rules.{Rule, previous, frame_of, waits, inside}
 use Rattle.frames.specs.Laws.{MayFollow, WouldGrow}
 
 module _ {O : Type 0} (R : Rule O) (P : List (Option O)) (newest : Option O) where
   abbrev pub row_frame : ℕ → RowFrame
-  row_frame i = record { range = frame_of R P i; is_complete = not (waits R P newest i (frame_of R P i)) }
+  row_frame i = cond (waits R P newest i (frame_of R P i)) (Waiting (frame_of R P i)) (Complete (frame_of R P i))
 
   -- of the first n rows
   abbrev pub row_frames : ℕ → List RowFrame

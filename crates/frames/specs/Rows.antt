@@ -7,20 +7,20 @@ use Rattle.bounds.specs.Bounds.{unbounded}
 use Rattle.frames.specs.Rules.{Rule}
 use Rattle.frames.specs.Standard.{rows_belongs}
 
--- of L rows, where the frame of row i starts and ends
+-- where a bound leads to from row i, of L rows
+abbrev pub rows_to : WindowFrameBound → ℕ → ℕ → ℕ
+rows_to UnboundedPreceding L i = 0
+rows_to (Preceding n) L i = min L (i - n)
+rows_to CurrentRow L i = min L i
+rows_to (Following n) L i = min L (i + n)
+rows_to UnboundedFollowing L i = L
+
+-- the frame of row i starts where its start leads to from row i, and ends before where its end leads to from the next row
 abbrev pub rows_start : WindowFrameBound → ℕ → ℕ → ℕ
-rows_start UnboundedPreceding L i = 0
-rows_start (Preceding n) L i = min L (i - n)
-rows_start CurrentRow L i = min L i
-rows_start (Following n) L i = min L (i + n)
-rows_start UnboundedFollowing L i = L
+rows_start a L i = rows_to a L i
 
 abbrev pub rows_end : WindowFrameBound → ℕ → ℕ → ℕ
-rows_end UnboundedPreceding L i = 0
-rows_end (Preceding n) L i = min L (suc i - n)
-rows_end CurrentRow L i = min L (suc i)
-rows_end (Following n) L i = min L (suc i + n)
-rows_end UnboundedFollowing L i = L
+rows_end b L i = rows_to b L (suc i)
 
 -- an end that no later row can reach
 abbrev pub rows_causal : WindowFrameBound → Bool

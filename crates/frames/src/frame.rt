@@ -7,9 +7,9 @@ pub struct WindowFrameRange {
     pub end: usize,
 }
 
-/// The frame of a row, and whether it is complete although rows may follow.
+/// The frame of a row: complete although rows may follow, or with rows still to wait for.
 #[derive(Clone, Copy, PartialEq, Eq, Debug)]
-pub struct RowFrame {
-    pub range: WindowFrameRange,
-    pub is_complete: bool,
+pub enum RowFrame {
+    Complete(WindowFrameRange),
+    Waiting(WindowFrameRange),
 }

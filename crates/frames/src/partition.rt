@@ -1,9 +1,10 @@
 //! The frames of a whole partition.
 
 ghost use Rattle.std.specs.Prelude.{◌≡◌, ℕ, ◌<◌, min, ◌++◌, length, drop};
+ghost use Rattle.std.specs.Result.{result_err};
 ghost use Rattle.frames.specs.Columns.{column};
 ghost use Rattle.frames.specs.Partitions.{Told, row_frames};
-ghost use Rattle.bounds.specs.Reasons.{first_reason, reason_of};
+ghost use Rattle.bounds.specs.Reasons.{first_reason};
 ghost use Rattle.frames.specs.Rules.{plain_reasons, waits};
 
 use crate::frame::{RowFrame, WindowFrameRange};
@@ -14,7 +15,7 @@ use kinds::ordered::Ordered;
 
 /// Refuses a rule that a plain expression cannot have: it never lets a row go.
 pub fn check_plain<O: Ordered, R: FrameRule<O>>(rule: &R) -> Result<(), IllMade>
-    ensures { reason_of result ≡ first_reason (plain_reasons (R.FrameRule.rule rule.now)) }
+    ensures { result_err result ≡ first_reason (plain_reasons (R.FrameRule.rule rule.now)) }
 {
     if rule.is_ever_expanding() || rule.is_constant() {
         Ok(())
@@ -51,9 +52,10 @@ pub fn frames<O: Ordered, R: FrameRule<O>>(
     let mut last = WindowFrameRange { start: 0, end: 0 };
     for row in 0..rows {
         last = rule.calculate_range(order, row, last);
-        out[row] = RowFrame {
-            range: last,
-            is_complete: !must_wait(rule, order, newest, row, last),
+        out[row] = if must_wait(rule, order, newest, row, last) {
+            RowFrame::Waiting(last)
+        } else {
+            RowFrame::Complete(last)
         };
     }
     rows

@@ -24,10 +24,7 @@ pub fn reverse_order(order_by: Option<SortOptions>) -> Option<SortOptions>
     ensures value { result ≡ option_map turned order_by }
     ensures twice { option_map turned result ≡ order_by }
 {
-    match order_by {
-        None => None,
-        Some(sort) => Some(sort.reverse()),
-    }
+    order_by.map(SortOptions::reverse)
 }
 
 impl Reverse for RowsFrame {

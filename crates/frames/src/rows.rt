@@ -1,9 +1,10 @@
 //! Frames counted in rows.
 
-ghost use Rattle.std.specs.Prelude.{◌≡◌, IfOk};
+ghost use Rattle.std.specs.Prelude.{◌≡◌, ◌^◌, ◌≤◌, IfOk};
+ghost use Rattle.std.specs.Result.{result_err};
 ghost use Rattle.frames.specs.Columns.{column};
-ghost use Rattle.bounds.specs.Reasons.{first_reason, bound_reasons, reason_of};
-ghost use Rattle.frames.specs.Rows.{rows_rule, rows_start, rows_end, rows_causal};
+ghost use Rattle.bounds.specs.Reasons.{first_reason, bound_reasons};
+ghost use Rattle.frames.specs.Rows.{rows_rule, rows_to, rows_causal};
 ghost use Rattle.frames.specs.RowFrames.{rows_lawful};
 
 use crate::frame::WindowFrameRange;
@@ -31,7 +32,7 @@ impl RowsFrame {
         end: WindowFrameBound,
         order_by: Option<SortOptions>,
     ) -> Result<RowsFrame, IllMade>
-        ensures reason { reason_of result ≡ first_reason (bound_reasons 4096 start end) }
+        ensures reason { result_err result ≡ first_reason (bound_reasons 4096 start end) }
         ensures frame { IfOk result (λ f. (f.bounds.start ≡ start) × (f.bounds.end ≡ end) × (f.order_by ≡ order_by)) }
     {
         let bounds = Bounds::new(start, end, MOST_ROWS)?;
@@ -39,43 +40,29 @@ impl RowsFrame {
     }
 }
 
-/// Where the frame of a row of `len` starts.
-fn start_row(bound: WindowFrameBound, len: usize, row: usize) -> usize
-    ensures { result ≡ rows_start bound len row }
+/// Where a bound leads to from the row `from`, of `len`.
+fn row_at(bound: WindowFrameBound, len: usize, from: u128) -> usize
+    requires { from ≤ 2 ^ 64 }
+    ensures { result ≡ rows_to bound len from }
 {
-    match bound {
+    let row = match bound {
         WindowFrameBound::UnboundedPreceding => 0,
-        WindowFrameBound::Preceding(n) => row.saturating_sub(n as usize).min(len),
-        WindowFrameBound::CurrentRow => row.min(len),
-        WindowFrameBound::Following(n) => row.saturating_add(n as usize).min(len),
-        WindowFrameBound::UnboundedFollowing => len,
-    }
-}
-
-/// Where it ends.
-fn end_row(bound: WindowFrameBound, len: usize, row: usize) -> usize
-    ensures { result ≡ rows_end bound len row }
-{
-    match bound {
-        WindowFrameBound::UnboundedPreceding => 0,
-        WindowFrameBound::Preceding(0) | WindowFrameBound::CurrentRow => row
-            .saturating_add(1)
-            .min(len),
-        WindowFrameBound::Preceding(n) => row.saturating_sub(n as usize - 1).min(len),
-        WindowFrameBound::Following(n) => row.saturating_add(n as usize).saturating_add(1).min(len),
-        WindowFrameBound::UnboundedFollowing => len,
-    }
+        WindowFrameBound::Preceding(n) => from.saturating_sub(u128::from(n)),
+        WindowFrameBound::CurrentRow => from,
+        WindowFrameBound::Following(n) => from + u128::from(n),
+        WindowFrameBound::UnboundedFollowing => return len,
+    };
+    row.min(len as u128) as usize
 }
 
 /// Whether a frame with this end never reaches behind its row.
 fn ends_by_its_row(bound: WindowFrameBound) -> bool
     ensures { result ≡ rows_causal bound }
 {
-    match bound {
-        WindowFrameBound::Following(n) => n == 0,
-        WindowFrameBound::UnboundedFollowing => false,
-        _ => true,
-    }
+    !matches!(
+        bound,
+        WindowFrameBound::Following(1..) | WindowFrameBound::UnboundedFollowing
+    )
 }
 
 impl<O: Ordered> FrameRule<O> for RowsFrame {
@@ -91,8 +78,8 @@ impl<O: Ordered> FrameRule<O> for RowsFrame {
     ) -> WindowFrameRange {
         let len = order.len();
         WindowFrameRange {
-            start: start_row(self.bounds.start, len, row),
-            end: end_row(self.bounds.end, len, row),
+            start: row_at(self.bounds.start, len, row as u128),
+            end: row_at(self.bounds.end, len, row as u128 + 1),
         }
     }
 

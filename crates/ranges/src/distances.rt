@@ -1,8 +1,9 @@
 //! RANGE by distance, for measured kinds.
 
 ghost use Rattle.std.specs.Prelude.{◌≡◌, ◌^◌, false, not, ◌&&◌, ◌||◌, ◌++◌, pos, negsuc, ◌+ℤ◌, ◌-ℤ◌, ◌≤ℤ◌, ◌<ℤ◌, is_some, IfOk, if◌then◌else◌, Some as Val};
+ghost use Rattle.std.specs.Result.{result_err};
 ghost use Rattle.bounds.specs.Bounds.{beyond, distant, offset};
-ghost use Rattle.bounds.specs.Reasons.{bound_reasons, first_reason, order_reasons, reason_of};
+ghost use Rattle.bounds.specs.Reasons.{bound_reasons, first_reason, order_reasons};
 ghost use Rattle.frames.specs.Standard.{moved};
 ghost use Rattle.std.proofs.Common.{rules, arith};
 
@@ -32,7 +33,7 @@ impl Distances {
         end: WindowFrameBound,
         order_by: Option<SortOptions>,
     ) -> Result<Distances, IllMade>
-        ensures reason { reason_of result ≡ first_reason (bound_reasons 2147483647 start end ++ order_reasons order_by start end) }
+        ensures reason { result_err result ≡ first_reason (bound_reasons 2147483647 start end ++ order_reasons order_by start end) }
         ensures frame { IfOk result (λ f. (f.bounds.start ≡ start) × (f.bounds.end ≡ end) × (f.order_by ≡ order_by)) }
     {
         let bounds = Bounds::new(start, end, MOST_DISTANCE)?;
@@ -101,7 +102,7 @@ impl<O: Measured> RangeUnits<O> for Distances {
             return false;
         };
         match target(self.bounds.start, here.place(), sort) {
-            Some(at) => sort.is_place_before(value.place(), at),
+            Some(at) => sort.is_before(value.place().into(), at.into()),
             None => false,
         }
     }
@@ -111,7 +112,7 @@ impl<O: Measured> RangeUnits<O> for Distances {
             return false;
         };
         match target(self.bounds.end, here.place(), sort) {
-            Some(at) => sort.is_place_before(at, value.place()),
+            Some(at) => sort.is_before(at.into(), value.place().into()),
             None => false,
         }
     }

@@ -1,6 +1,6 @@
 //! Frames that go by order values.
 
-ghost use Rattle.std.specs.Prelude.{◌≡◌, not, map, if◌then◌else◌, Some as Val};
+ghost use Rattle.std.specs.Prelude.{◌≡◌, Bool, not, if◌then◌else◌, Option as Opt};
 ghost use Rattle.bounds.specs.Bounds.{unbounded};
 ghost use Rattle.frames.specs.Columns.{column};
 ghost use Rattle.bounds.specs.Orders.{at, row_ahead};
@@ -23,33 +23,47 @@ pub struct RangeFrame<U> {
     pub units: U,
 }
 
-/// The first row from `from` on that the start, seen from a row with the value `here`, does not remove.
-fn search_start<O: Ordered, U: RangeUnits<O>>(
-    units: &U,
-    values: &[O],
-    here: O,
+/// The first row from `from` on whose order value does not pass, or the row count.
+fn first_from<O: Copy, F: Fn(Option<O>) -> bool>(
+    order: &OrderColumn<O>,
     from: usize,
+    passes: F,
 ) -> usize
-    ensures { result ≡ first_from (start_excludes O.Ordered.keyed U.RangeUnits.base (U.RangeUnits.order units.now) (U.RangeUnits.start units.now) (Val here)) from (map Val values.now) }
+    requires { F.IsAlwaysCallable passes }
+    ensures { (test : Opt O → Bool) → ((v : Opt O) (r : Bool) → F.post passes v r → r ≡ test v) → result ≡ first_from test from (column order.now) }
 {
-    for i in from..values.len() {
-        if !units.is_before_start(here, values[i]) {
-            return i;
-        }
+    let from = from.min(order.len());
+    match order {
+        OrderColumn::Values(values) => values[from..]
+            .iter()
+            .position(|value| !passes(Some(*value)))
+            .map_or(values.len(), |further| from + further),
+        OrderColumn::Absent(rows) => if passes(None) { *rows } else { from },
     }
-    values.len()
 }
 
-/// The first row from `from` on that the end removes.
-fn search_end<O: Ordered, U: RangeUnits<O>>(units: &U, values: &[O], here: O, from: usize) -> usize
-    ensures { result ≡ first_from (λ v. not (end_excludes O.Ordered.keyed U.RangeUnits.base (U.RangeUnits.order units.now) (U.RangeUnits.end units.now) (Val here) v)) from (map Val values.now) }
+/// Whether the start removes a row with the order value `value`, seen from a row with `here`.
+fn is_before_start<O: Ordered, U: RangeUnits<O>>(
+    units: &U,
+    here: Option<O>,
+    value: Option<O>,
+) -> bool
+    ensures { result ≡ start_excludes O.Ordered.keyed U.RangeUnits.base (U.RangeUnits.order units.now) (U.RangeUnits.start units.now) here value }
 {
-    for i in from..values.len() {
-        if units.is_behind_end(here, values[i]) {
-            return i;
-        }
+    match (here, value) {
+        (Some(here), Some(value)) => units.is_before_start(here, value),
+        _ => false,
     }
-    values.len()
+}
+
+/// Whether the end removes it.
+fn is_behind_end<O: Ordered, U: RangeUnits<O>>(units: &U, here: Option<O>, value: Option<O>) -> bool
+    ensures { result ≡ end_excludes O.Ordered.keyed U.RangeUnits.base (U.RangeUnits.order units.now) (U.RangeUnits.end units.now) here value }
+{
+    match (here, value) {
+        (Some(here), Some(value)) => units.is_behind_end(here, value),
+        _ => false,
+    }
 }
 
 /// Where the frame of a row starts; the search goes on from `from`.
@@ -64,13 +78,8 @@ fn start_of<O: Ordered, U: RangeUnits<O>>(
     if units.start_bound().is_unbounded() {
         return 0;
     }
-    let Some(here) = order.get(row) else {
-        return from.min(order.len());
-    };
-    match order {
-        OrderColumn::Values(values) => search_start(units, values, here, from),
-        OrderColumn::Absent(rows) => from.min(*rows),
-    }
+    let here = order.get(row);
+    first_from(order, from, |value| is_before_start(units, here, value))
 }
 
 /// Where it ends.
@@ -82,13 +91,8 @@ fn end_of<O: Ordered, U: RangeUnits<O>>(
 ) -> usize
     ensures { result ≡ first_from (λ v. not (end_excludes O.Ordered.keyed U.RangeUnits.base (U.RangeUnits.order units.now) (U.RangeUnits.end units.now) (at (column order.now) row) v)) from (column order.now) }
 {
-    let Some(here) = order.get(row) else {
-        return order.len();
-    };
-    match order {
-        OrderColumn::Values(values) => search_end(units, values, here, from),
-        OrderColumn::Absent(rows) => *rows,
-    }
+    let here = order.get(row);
+    first_from(order, from, |value| !is_behind_end(units, here, value))
 }
 
 /// Whether a most recent row is shown and sorts strictly behind the last row.
@@ -101,25 +105,8 @@ pub fn is_row_ahead<O: Ordered>(
 {
     match (order_by, order.last(), newest) {
         (Some(sort), Some(last), Some(newest)) => {
-            let last = last.key();
-            let newest = newest.key();
-            sort.is_key_before(last, newest)
+            sort.is_before(last.key().into(), newest.key().into())
         }
-        _ => false,
-    }
-}
-
-/// Whether a most recent row is shown and sorts strictly behind the target of the end.
-fn is_target_passed<O: Ordered, U: RangeUnits<O>>(
-    units: &U,
-    order: &OrderColumn<O>,
-    newest: Option<O>,
-    row: usize,
-) -> bool
-    ensures { result ≡ end_excludes O.Ordered.keyed U.RangeUnits.base (U.RangeUnits.order units.now) (U.RangeUnits.end units.now) (at (column order.now) row) newest }
-{
-    match (order.get(row), newest) {
-        (Some(here), Some(newest)) => units.is_behind_end(here, newest),
         _ => false,
     }
 }
@@ -154,23 +141,20 @@ impl<O: Ordered, U: RangeUnits<O>> FrameRule<O> for RangeFrame<U> {
     }
 
     fn is_causal(&self) -> bool {
-        match self.units.end_bound() {
-            WindowFrameBound::Preceding(d) => d > 0,
-            _ => false,
-        }
+        matches!(self.units.end_bound(), WindowFrameBound::Preceding(1..))
     }
 
     fn is_end_bound_safe(&self, order: &OrderColumn<O>, newest: Option<O>, row: usize) -> bool
         ensures { result ≡ range_closed O.Ordered.keyed U.RangeUnits.base (U.RangeUnits.order self.now.units) (U.RangeUnits.end self.now.units) (column order.now) newest row }
     {
         match self.units.end_bound() {
-            WindowFrameBound::Preceding(d) if d > 0 => self.units.order_by().is_some(),
+            WindowFrameBound::Preceding(1..) => self.units.order_by().is_some(),
             WindowFrameBound::Preceding(_) | WindowFrameBound::CurrentRow => is_row_ahead(
                 order,
                 newest,
                 self.units.order_by(),
             ),
-            WindowFrameBound::Following(_) => is_target_passed(&self.units, order, newest, row),
+            WindowFrameBound::Following(_) => is_behind_end(&self.units, order.get(row), newest),
             WindowFrameBound::UnboundedPreceding | WindowFrameBound::UnboundedFollowing => false,
         }
     }

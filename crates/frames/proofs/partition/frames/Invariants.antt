@@ -8,4 +8,4 @@ abbrev pub invariant-loop-row : goal.invariant-loop-row
 invariant-loop-row g l =
     let R = g.R.FrameRule.rule l.rule in
     let P = column l.order in
-    (l.last ≡ previous R P l.row) × (l.out ≡ row_frames R P l.newest l.row ++ drop l.row l.initial.out)
+    record { last : l.last ≡ previous R P l.row; written : l.out ≡ row_frames R P l.newest l.row ++ drop l.row l.initial.out }
