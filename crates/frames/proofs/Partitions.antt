@@ -1,10 +1,8 @@
 -- The frames of a partition and of every longer one, from the laws of a rule alone. Assumes nothing.
-use Rattle.std.proofs.Common.{◌≡◌, ℕ, zero, suc, ◌+◌, ◌-◌, ◌<◌, ◌≤◌, List, [], ◌∷◌, ◌++◌, length, get_or, drop, set, Option, sym, refl, ap, ◌∙◌, inl, inr, append_assoc, add-one, arith}
-use Rattle.std.proofs.lemmas.List.{set-append_right, drop_more, length_push}
-use Rattle.frames.specs.declared.frame.RowFrame.{RowFrame}
+use Rattle.std.proofs.Common.{◌≡◌, ℕ, zero, suc, ◌<◌, ◌≤◌, List, ◌++◌, length, Option, refl, ap, ◌∙◌, inl, inr, arith}
 use Rattle.frames.specs.Rules.{Rule, previous, frame_of}
 use Rattle.frames.specs.Laws.{Lawful, MayFollow}
-use Rattle.frames.specs.Partitions.{Told, row_frame, row_frames}
+use Rattle.frames.specs.Partitions.{Told}
 use Rattle.frames.specs.OrderLists.{in_order_front}
 use Rattle.frames.proofs.Previous.{previous_made, previous_within}
 use Rattle.frames.specs.Waiting.{Sure, sure, at_rest}
@@ -43,23 +41,3 @@ module _ {O : Type 0} (keyed : O → ℕ) (R : Rule O) (laws : Lawful keyed R) w
     complete = λ w rest f. same_frame P rest newest f i h (sure R P newest i (frame_of R P i) w);
     incomplete = λ e r w. laws.waits_rightly e P newest i h r w;
   }
-
--- ---- writing them, row by row
-module _ {O : Type 0} (R : Rule O) (P : List (Option O)) (newest : Option O) where
-  frames_length : (n : ℕ) → length (row_frames R P newest n) ≡ n
-  frames_length zero = refl
-  frames_length (suc n) = let ih = frames_length n in omega (arith, length_push (row_frames R P newest n) (row_frame R P newest n))
-
-  pub written_more : (n : ℕ) (out out' : List RowFrame) (f : RowFrame) → n < length out → f ≡ row_frame R P newest n → out' ≡ row_frames R P newest n ++ drop n out
-      → set out' n f ≡ row_frames R P newest (n + 1) ++ drop (n + 1) out
-  written_more n out out' f h e w =
-      let fs = row_frames R P newest n in
-      let rest = drop (n + 1) out in
-      let here : n - n ≡ 0 = omega arith in
-      ap (λ o. set o n f) w
-      ∙ set-append_right fs (drop n out) n n f (frames_length n) (omega arith)
-      ∙ ap (λ o. fs ++ set o (n - n) f) (drop_more out n f h)
-      ∙ ap (λ k. fs ++ set (get_or out n f ∷ rest) k f) here
-      ∙ sym (append_assoc fs (f ∷ []) rest)
-      ∙ ap (λ g. (fs ++ g ∷ []) ++ rest) e
-      ∙ ap (λ m. row_frames R P newest m ++ rest) (sym (add-one n))

@@ -10,32 +10,25 @@ use Rattle.bounds.specs.declared.bound.WindowFrameBound.{WindowFrameBound}
 use Rattle.bounds.specs.declared.bound.WindowFrameBound.TheVariants.{UnboundedPreceding, Preceding, CurrentRow, Following, UnboundedFollowing}
 use Rattle.bounds.specs.Bounds.{behind, unbounded, is_unbounded_following, is_unbounded_preceding}
 use Rattle.frames.specs.Standard.{rows_start_excludes, rows_end_excludes}
-use Rattle.frames.specs.Rows.{rows_start, rows_end, rows_causal, rows_rule}
+use Rattle.frames.specs.Rows.{rows_to, rows_start, rows_end, rows_causal, rows_rule}
 use Rattle.frames.specs.Laws.{Lawful}
 use Rattle.frames.specs.OrderLists.{coming}
 use Rattle.frames.specs.Waiting.{sure, unsure}
 
 -- ---- one bound
-start_rises : (a : WindowFrameBound) (L i : ℕ) → rows_start a L i ≤ rows_start a L (suc i)
-start_rises UnboundedPreceding L i = omega arith
-start_rises (Preceding n) L i = omega arith
-start_rises CurrentRow L i = omega arith
-start_rises (Following n) L i = omega arith
-start_rises UnboundedFollowing L i = omega arith
+rises : (a : WindowFrameBound) (L i : ℕ) → rows_to a L i ≤ rows_to a L (suc i)
+rises UnboundedPreceding L i = omega arith
+rises (Preceding n) L i = omega arith
+rises CurrentRow L i = omega arith
+rises (Following n) L i = omega arith
+rises UnboundedFollowing L i = omega arith
 
-end_rises : (b : WindowFrameBound) (L i : ℕ) → rows_end b L i ≤ rows_end b L (suc i)
-end_rises UnboundedPreceding L i = omega arith
-end_rises (Preceding n) L i = omega arith
-end_rises CurrentRow L i = omega arith
-end_rises (Following n) L i = omega arith
-end_rises UnboundedFollowing L i = omega arith
-
-end_within : (b : WindowFrameBound) (L i : ℕ) → rows_end b L i ≤ L
-end_within UnboundedPreceding L i = omega arith
-end_within (Preceding n) L i = omega arith
-end_within CurrentRow L i = omega arith
-end_within (Following n) L i = omega arith
-end_within UnboundedFollowing L i = omega arith
+within : (a : WindowFrameBound) (L i : ℕ) → rows_to a L i ≤ L
+within UnboundedPreceding L i = omega arith
+within (Preceding n) L i = omega arith
+within CurrentRow L i = omega arith
+within (Following n) L i = omega arith
+within UnboundedFollowing L i = omega arith
 
 start_excludes : (a : WindowFrameBound) (L i j : ℕ) → i < L → j < L → nat_le (rows_start a L i) j ≡ not (rows_start_excludes a i j)
 start_excludes UnboundedPreceding L i j h k = grind (arith, nat_tests)
@@ -91,7 +84,7 @@ module _ (a b : WindowFrameBound) (first : is_unbounded_following a ≡ false) (
       same = end_stays L M i h k b c
 
       inner : rows_end b L i ≤ L
-      inner = end_within b L i
+      inner = within b L (suc i)
 
       go : (a : WindowFrameBound) → rows_start a M i ≤ rows_end b M i → rows_start a L i ≤ rows_end b L i → rows_start a M i ≡ rows_start a L i
       go UnboundedPreceding u v = refl
@@ -145,9 +138,9 @@ module _ (a b : WindowFrameBound) (first : is_unbounded_following a ≡ false) (
     pub rows_lawful : Lawful keyed (rows_rule order a b)
     rows_lawful = record {
       made = λ P i p h. start_end (length P) i;
-      within = λ P i p. end_within b (length P) i;
-      start_rises = λ P. elim [ zero ↦ omega arith | suc i ↦ start_rises a (length P) i ];
-      end_rises = λ P. elim [ zero ↦ omega arith | suc i ↦ end_rises b (length P) i ];
+      within = λ P i p. within b (length P) (suc i);
+      start_rises = λ P. elim [ zero ↦ omega arith | suc i ↦ rises a (length P) i ];
+      end_rises = λ P. elim [ zero ↦ omega arith | suc i ↦ rises b (length P) (suc i) ];
       starts_first = λ e P i p. from_0 e (length P) i;
       end_alone = λ P i p q e. refl;
       whole = λ e P newest i h. let w = whole e P i in ((λ j. record { start = w.0 j; end = w.1 j }), w.2, unsafe w.2);

@@ -50,9 +50,9 @@ pub fn frames<O: Ordered, R: FrameRule<O>>(
 {
     let rows = order.len().min(out.len());
     let mut last = WindowFrameRange { start: 0, end: 0 };
-    for row in 0..rows {
+    for (row, place) in out[..rows].iter_mut().enumerate() {
         last = rule.calculate_range(order, row, last);
-        out[row] = if must_wait(rule, order, newest, row, last) {
+        *place = if must_wait(rule, order, newest, row, last) {
             RowFrame::Waiting(last)
         } else {
             RowFrame::Complete(last)

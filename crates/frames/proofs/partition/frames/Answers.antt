@@ -1,8 +1,9 @@
-use Rattle.std.proofs.Common.{◌≡◌, cond, sym, ap, ◌∙◌, add-one, arith, rules}
+use Rattle.std.proofs.Common.{◌≡◌, ◌++◌, ◌∷◌, [], sym, ap, ◌∙◌, add-one, arith, rules}
+use Rattle.std.proofs.lemmas.List.{take_more_set}
 use Rattle.frames.specs.Columns.{column}
-use Rattle.frames.specs.declared.frame.RowFrame.TheVariants.{Complete, Waiting}
+use Rattle.frames.specs.Partitions.{row_frame, row_frames}
 use Rattle.frames.specs.Rules.{previous, waits}
-use Rattle.frames.proofs.Partitions.{told, written_more}
+use Rattle.frames.proofs.Partitions.{told}
 use Rattle.frames.proofs.partition.frames.Goals as goal
 use Rattle.frames.proofs.partition.frames.Goals.{then-must_wait, else-must_wait}
 
@@ -11,13 +12,13 @@ loop-row-preserved g c =
     let R = g.R.FrameRule.rule c.args.rule.now in
     let P = column c.args.order.now in
     let i = c.loop-row.row in
-    let last = c.calculate_range-last.result in
     let at = c.calculate_range-last.ensures ∙ ap (R.frame P i) c.loop-row.invariant.last in
     let rests = c.must_wait.ensures ∙ ap (waits R P c.args.newest i) at in
-    let row : c.if-must_wait.out ≡ cond c.must_wait.result (Waiting last) (Complete last) = elim c.if-must_wait.branch [ then-must_wait w ↦ search rules | else-must_wait w ↦ search rules ] in
+    let more = sym (add-one i) in
+    let row : c.if-must_wait.place ≡ row_frame R P c.args.newest i = elim c.if-must_wait.branch [ then-must_wait w ↦ search rules | else-must_wait w ↦ search rules ] in
     record {
-      last = at ∙ ap (previous R P) (sym (add-one i));
-      written = written_more R P c.args.newest i c.args.out.now c.loop-row.out _ (omega arith) (row ∙ (λ j. cond (rests j) (Waiting (at j)) (Complete (at j)))) c.loop-row.invariant.written;
+      last = at ∙ ap (previous R P) more;
+      written = take_more_set c.loop-row.place-items i c.if-must_wait.place (omega arith) ∙ (λ j. c.loop-row.invariant.written j ++ row j ∷ []) ∙ ap (row_frames R P c.args.newest) more;
     }
 
 pub returns-clause-told : goal.returns-clause-told

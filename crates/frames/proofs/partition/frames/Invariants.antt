@@ -1,4 +1,4 @@
-use Rattle.std.proofs.Common.{◌≡◌, ◌++◌, drop}
+use Rattle.std.proofs.Common.{◌≡◌, take}
 use Rattle.frames.specs.Columns.{column}
 use Rattle.frames.specs.Rules.{previous}
 use Rattle.frames.specs.Partitions.{row_frames}
@@ -8,4 +8,4 @@ abbrev pub invariant-loop-row : goal.invariant-loop-row
 invariant-loop-row g l =
     let R = g.R.FrameRule.rule l.rule in
     let P = column l.order in
-    record { last : l.last ≡ previous R P l.row; written : l.out ≡ row_frames R P l.newest l.row ++ drop l.row l.initial.out }
+    record { last : l.last ≡ previous R P l.row; written : take l.row l.place-items ≡ row_frames R P l.newest l.row }
