@@ -1,10 +1,9 @@
 -- Bounds that lead nowhere: no row is removed. Assumes nothing.
-use Rattle.std.specs.Prelude.{◌≡◌, ℕ, min, false, cond, not, List, length, ℤ, Some, None, Option, refl}
-use Rattle.std.proofs.Common.{sym, ap, ◌∙◌}
+use Rattle.std.specs.Prelude.{◌≡◌, ℕ, min, false, not, List, length, ℤ, Some, None, Option, slice_index_or, refl}
+use Rattle.std.proofs.Common.{ap, ◌∙◌}
 use Rattle.bounds.specs.declared.sort.SortOptions.{SortOptions}
 use Rattle.bounds.specs.declared.bound.WindowFrameBound.{WindowFrameBound}
-use Rattle.std.proofs.lemmas.Bool.{cond-false}
-use Rattle.bounds.specs.Bounds.{offset, unbounded}
+use Rattle.bounds.specs.Bounds.{offset}
 use Rattle.bounds.specs.Orders.{precedes, place}
 use Rattle.frames.specs.Standard.{moved, target, start_excludes, end_excludes}
 use Rattle.ranges.specs.Scans.{first_from}
@@ -44,15 +43,7 @@ module _ {O : Type 0} (keyed : O → ℕ) (base : ℕ) (o : Option SortOptions) 
     end_keeps w = ap (λ t. precedes o t (place keyed base w)) nowhere ∙ none_before_none o (place keyed base w)
 
     pub start_unaimed : (P : List (Option O)) (s : ℕ) → first_from (start_excludes keyed base o b v) s P ≡ min s (length P)
-    start_unaimed P s = first_none (start_excludes keyed base o b v) start_keeps P s
+    start_unaimed P s = first_none (start_excludes keyed base o b v) P (λ k d l. start_keeps (slice_index_or P k d)) s
 
     pub end_unaimed : (P : List (Option O)) (s : ℕ) → first_from (λ w. not (end_excludes keyed base o b v w)) s P ≡ length P
-    end_unaimed P s = first_all (λ w. not (end_excludes keyed base o b v w)) (λ w. ap not (end_keeps w)) P s
-
-  -- the same, as a row that there is not asks it
-  module _ (v : Option O) (missing : v ≡ None) (P : List (Option O)) (s : ℕ) where
-    pub start_missing : unbounded b ≡ false → min s (length P) ≡ cond (unbounded b) 0 (first_from (start_excludes keyed base o b v) s P)
-    start_missing e = sym (cond-false (unbounded b) 0 (first_from (start_excludes keyed base o b v) s P) e ∙ start_unaimed v (no_value v missing) P s)
-
-    pub end_missing : length P ≡ first_from (λ w. not (end_excludes keyed base o b v w)) s P
-    end_missing = sym (end_unaimed v (no_value v missing) P s)
+    end_unaimed P s = first_all (λ w. not (end_excludes keyed base o b v w)) P (λ k d l. ap not (end_keeps (slice_index_or P k d))) s

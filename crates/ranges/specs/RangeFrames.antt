@@ -1,8 +1,7 @@
 -- RANGE keeps the laws. Assumes nothing.
-use Rattle.std.specs.Prelude.{◌≡◌, ℕ, zero, suc, ◌-◌, ◌<◌, ◌≤◌, Bool, true, false, cond, not, ◌&&◌, ◌||◌, ltb, ◌⊎◌, List, [], ◌∷◌, ◌++◌, length, ℤ, pos, is_some, Some, None, Option, nat_le, nat_lt, refl}
+use Rattle.std.specs.Prelude.{◌≡◌, ℕ, All, zero, suc, ◌-◌, ◌<◌, ◌≤◌, Bool, true, false, cond, not, ◌&&◌, ◌||◌, ltb, ◌⊎◌, List, [], ◌∷◌, ◌++◌, length, ℤ, pos, is_some, Some, None, Option, nat_le, nat_lt, slice_index_or, refl}
 use Rattle.std.proofs.Common.{sym, ap, subst, ◌∙◌, inl, inr, ⊎_elim, arith}
-use Rattle.std.specs.List.{prefix_len, AllByRecursion}
-use Rattle.std.proofs.ByRecursion.{All-get_or, All-weaker}
+use Rattle.std.specs.List.{prefix_len}
 use Rattle.std.proofs.lemmas.List.{get_or_append_left, length_push}
 use Rattle.std.proofs.lemmas.Bool.{and_parts, both_ways, false≢true, ltb-true, ltb-false, lt-ltb, not-true}
 use Rattle.std.proofs.lemmas.Bool.Decides.{nat_tests}
@@ -31,7 +30,7 @@ module _ {O : Type 0} (keyed : O → ℕ) (base : ℕ) where
   seat P i = place keyed base (at P i)
 
   valued : (s : SortOptions) (P : List (Option O)) → InOrder keyed (Some s) P → (i : ℕ) → i < length P → is_some (seat P i) ≡ true
-  valued s P h i l = placed keyed base (at P i) (All-get_or (λ v. is_some v ≡ true) P i None l h.0)
+  valued s P h i l = placed keyed base (at P i) (h.0 i None l)
 
   up : (o : Option SortOptions) (P : List (Option O)) → InOrder keyed o P → (k j : ℕ) → k ≤ j → j < length P → precedes o (seat P j) (seat P k) ≡ false
   up o P h k j l m = by_place keyed base o (at P j) (at P k) ∙ rising_at keyed o P h k j l m
@@ -209,23 +208,17 @@ module _ {O : Type 0} (keyed : O → ℕ) (base : ℕ) (o : Option SortOptions) 
 
   module _ (P rest : List (Option O)) (newest : Option O) (i : ℕ) (h : i < length P) (follow : MayFollow keyed rule P newest rest) where
     abbrev Removed : Type 0
-    Removed = AllByRecursion (λ r. end_excludes keyed base o b (at P i) r ≡ true) rest
+    Removed = All (λ r. end_excludes keyed base o b (at P i) r ≡ true) rest
 
     inner : InOrder keyed o P
     inner = in_order_front keyed o P rest follow.0
 
-    -- each row to come has a value, and does not sort before the most recent row, nor before row i
-    each : (s : SortOptions) → o ≡ Some s → (Q R : Option O → Type 0) → ((r : Option O) → is_some r ≡ true → Q r → R r) → AllByRecursion Q rest → AllByRecursion R rest
-    each s e Q R f q = go rest (valued_rest keyed s P rest (subst (λ o. InOrder keyed o (P ++ rest)) e follow.0)) q
-      where
-        go : (xs : List (Option O)) → AllByRecursion (λ v. is_some v ≡ true) xs → AllByRecursion Q xs → AllByRecursion R xs
-        go [] v q = tt
-        go (x ∷ xs) v q = (f x v.0 q.0, go xs v.1 q.1)
-
     -- the target lies before t, and no row to come sorts before t
     past : (s : SortOptions) → o ≡ Some s → (t : Option O) → end_excludes keyed base o b (at P i) t ≡ true → NoneBefore keyed o t rest → Removed
-    past s e t l n = each s e (λ r. before keyed o r t ≡ false) (λ r. end_excludes keyed base o b (at P i) r ≡ true)
-        (λ r v k. upper o (place keyed base t) (place keyed base r) (target keyed base o b (at P i)) (placed keyed base r v) l (by_place keyed base o r t ∙ k)) n
+    past s e t l n k d m =
+        let r = slice_index_or rest k d in
+        let v = valued_rest keyed s P rest (subst (λ o. InOrder keyed o (P ++ rest)) e follow.0) k d m in
+        upper o (place keyed base t) (place keyed base r) (target keyed base o b (at P i)) (placed keyed base r v) l (by_place keyed base o r t ∙ n k d m)
 
     by_target : end_excludes keyed base o b (at P i) newest ≡ true → Removed
     by_target l = go o refl
@@ -299,8 +292,8 @@ module _ {O : Type 0} (keyed : O → ℕ) (base : ℕ) (o : Option SortOptions) 
 
         far : Removed → rule.frame (P ++ rest) i p ≡ rule.frame P i p
         far r = alike
-            (first_halts (starts (at P i)) P rest p.start (omega (arith, u, v)) (All-weaker (λ x. end_excludes keyed base o b (at P i) x ≡ true) (λ x. starts (at P i) x ≡ false) out rest r))
-            (first_halts (stays (at P i)) P rest p.end v (All-weaker (λ x. end_excludes keyed base o b (at P i) x ≡ true) (λ x. stays (at P i) x ≡ false) (λ x e. ap not e) rest r))
+            (first_halts (starts (at P i)) P rest p.start (omega (arith, u, v)) (λ k d l. out (slice_index_or rest k d) (r k d l)))
+            (first_halts (stays (at P i)) P rest p.end v (λ k d l. ap not (r k d l)))
           where
             out : (x : Option O) → end_excludes keyed base o b (at P i) x ≡ true → starts (at P i) x ≡ false
             out x e = step (starts (at P i) x) refl
