@@ -1,8 +1,8 @@
 -- The order of places, whichever way it runs. Assumes nothing.
 use Rattle.std.proofs.Common.{◌≡◌, ℕ, Bool, true, false, ℤ, is_some, Some, None, Option, refl, arith}
-use borrow.Author.Differences.{ints}
-use lib.IntN.{sub_ℕ}
+use Rattle.std.proofs.Math.IntN.{sub_ℕ}
 use Rattle.std.proofs.lemmas.Bool.{false≢true}
+use Rattle.std.proofs.lemmas.Int.{ints}
 use Rattle.bounds.specs.declared.sort.SortOptions.{SortOptions}
 use Rattle.bounds.specs.Orders.{sorts_before, precedes, place, before}
 

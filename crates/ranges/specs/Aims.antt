@@ -18,20 +18,12 @@ pub none_before_none : (o : Option SortOptions) (a : Option ℤ) → precedes o 
 none_before_none None a = refl
 none_before_none (Some s) a = refl
 
-from_nowhere : (o : Option SortOptions) (by : Option ℤ) → moved o by None ≡ None
-from_nowhere None by = refl
-from_nowhere (Some s) None = refl
-from_nowhere (Some s) (Some z) = refl
-
 by_nothing : (o : Option SortOptions) (z : Option ℤ) → moved o None z ≡ None
 by_nothing None z = refl
 by_nothing (Some s) z = refl
 
 module _ {O : Type 0} (keyed : O → ℕ) (base : ℕ) (o : Option SortOptions) (b : WindowFrameBound) where
-  -- from a row without an order value, or where the bound is UNBOUNDED
-  pub no_value : (v : Option O) → v ≡ None → target keyed base o b v ≡ None
-  no_value v e = ap (λ w. moved o (offset b) (place keyed base w)) e ∙ from_nowhere o (offset b)
-
+  -- where the bound is UNBOUNDED
   pub no_bound : (v : Option O) → offset b ≡ None → target keyed base o b v ≡ None
   no_bound v e = ap (λ by. moved o by (place keyed base v)) e ∙ by_nothing o (place keyed base v)
 
