@@ -2,7 +2,7 @@ use Rattle.std.proofs.Common.{◌≡◌, ◌++◌, ◌∷◌, [], sym, ap, ◌�
 use Rattle.std.proofs.lemmas.List.{take_more_set}
 use Rattle.frames.specs.Columns.{column}
 use Rattle.frames.specs.Partitions.{row_frame, row_frames}
-use Rattle.frames.specs.Rules.{previous, waits}
+use Rattle.frames.specs.Rules.{previous, frame_of}
 use Rattle.frames.proofs.Partitions.{told}
 use Rattle.frames.proofs.partition.frames.Goals as goal
 use Rattle.frames.proofs.partition.frames.Goals.{then-must_wait, else-must_wait}
@@ -12,8 +12,7 @@ loop-row-preserved g c =
     let R = g.R.FrameRule.rule c.args.rule.now in
     let P = column c.args.order.now in
     let i = c.loop-row.row in
-    let at = c.calculate_range-last.ensures ∙ ap (R.frame P i) c.loop-row.invariant.last in
-    let rests = c.must_wait.ensures ∙ ap (waits R P c.args.newest i) at in
+    let at : c.calculate_range-last.result ≡ frame_of R P i = cc in
     let more = sym (add-one i) in
     let row : c.if-must_wait.place ≡ row_frame R P c.args.newest i = elim c.if-must_wait.branch [ then-must_wait w ↦ search rules | else-must_wait w ↦ search rules ] in
     record {
