@@ -27,10 +27,14 @@ extreme_state n b = n ∷ one_or_0 b ∷ key_or_0 b ∷ []
 abbrev pub best_held : List ℕ → Option ℕ
 best_held s = missing_at_0 (present_held s) (third_held s)
 
+-- the value at the best key of a list
+abbrev pub best_value : {V : Type 0} → Bool → (V → ℕ) → (ℕ → V) → List (Option V) → Option V
+best_value greatest keyed valued xs = option_map valued (best greatest None (map keyed (non_null xs)))
+
 abbrev pub extreme : {V : Type 0} → Bool → (V → ℕ) → (ℕ → V) → Figure V V
 extreme greatest keyed valued = record {
   capacity = most_rows;
-  answer = λ xs. option_map valued (best greatest None (map keyed (non_null xs)));
+  answer = best_value greatest keyed valued;
   state = λ xs. extreme_state (length xs) (best greatest None (map keyed (non_null xs)));
   answered = λ s. option_map valued (best_held s);
   updated = λ s ys. extreme_state (rows_held s + length ys) (best greatest (best_held s) (map keyed (non_null ys)));

@@ -1,6 +1,7 @@
 -- What an accumulator is: a rule over the numbers of its state, and their meaning over a list of optional values
 -- (docs/RULES.md, section 4.1). Assumes nothing.
-use Rattle.std.specs.Prelude.{◌≡◌, ℕ, zero, suc, ◌+◌, ◌<◌, ◌≤◌, List, [], ◌∷◌, ◌++◌, length, Some, None, Option, slice_index}
+use Rattle.std.specs.Prelude.{◌≡◌, ℕ, All, zero, suc, ◌+◌, ◌<◌, ◌≤◌, List, [], ◌++◌, length, Some, None, Option, slice_index}
+use Rattle.rows.specs.Rows.{non_null}
 
 -- the most rows that an accumulator holds which does not keep them, and one which does
 abbrev pub most_rows : ℕ
@@ -49,9 +50,7 @@ pub record Retracting {V Answer : Type 0} (F : Figure V Answer) (Stands : List �
 
 -- P holds of each value that is there
 abbrev pub Each : {V : Type 0} → (V → Type 0) → List (Option V) → Type 0
-Each P [] = Unit {0}
-Each P (None ∷ xs) = Each P xs
-Each P (Some v ∷ xs) = P v × Each P xs
+Each P xs = All P (non_null xs)
 
 -- Numbers stand for each list within the capacity that has this state.
 abbrev pub Within : {V Answer : Type 0} → Figure V Answer → List ℕ → List (Option V) → Type 0

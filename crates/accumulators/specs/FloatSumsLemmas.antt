@@ -1,17 +1,18 @@
 -- SUM of floats keeps the laws. Assumes nothing.
-use Rattle.std.specs.Prelude.{◌≡◌, ℕ, zero, suc, false, T, List, [], ◌∷◌, ◌++◌, length, pos, Some, fold, Option, ◌≢◌, refl, Float}
+use Rattle.std.specs.Prelude.{◌≡◌, false, T, List, [], ◌∷◌, ◌++◌, length, pos, fold, Option, refl, Float}
 use Rattle.std.proofs.Common.{sym, ap, ◌∙◌}
 use Rattle.std.specs.Float.{fin, binary64}
 use Rattle.std.specs.Float.Ieee.{add, fits, of_bits}
 use Rattle.std.specs.Float.Ieee.Fits.{add-fits}
 use Rattle.kinds.specs.Keys.{float_key, float_at}
 use Rattle.kinds.specs.FloatKeys.{float_back}
+use Rattle.std.proofs.lemmas.List.Sums.{fold-append}
 use Rattle.rows.specs.Rows.{non_null}
 use Rattle.accumulators.specs.Sql.{float_total}
 use Rattle.accumulators.specs.Figures.{Lawful, Within, missing_at_0}
 use Rattle.accumulators.specs.FloatSums.{float_sum}
 use Rattle.accumulators.specs.declared.float_sum.Total.{Total}
-use Rattle.rows.proofs.Lists.{non_null-append, fold-append}
+use Rattle.rows.proofs.Lists.{non_null-append}
 use Rattle.accumulators.specs.Lists.{null_is}
 use Rattle.accumulators.specs.Laws.{lawful_within}
 use Rattle.accumulators.specs.CountsLemmas.{rows_more, present_more}
@@ -48,8 +49,3 @@ float_sum_lawful = lawful_within float_sum
     (λ xs ys h. let r = rows_more xs ys in let p = present_more xs ys h in let t = total_more xs ys in λ i. r i ∷ p i ∷ t i ∷ [])
     (λ xs. refl)
     (λ xs h. ap (missing_at_0 (length (non_null xs))) (back (non_null xs)) ∙ null_is (non_null xs) (float_total (fin false 0 (pos 0)) (non_null xs)))
-
--- an answer is there where a value was
-pub some_at : {A : Type 0} (n : ℕ) (a : A) → (n ≢ 0) → Some a ≡ missing_at_0 n a
-some_at zero a h = absurd (h refl)
-some_at (suc n) a h = refl

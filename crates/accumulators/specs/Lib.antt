@@ -1,6 +1,7 @@
 pub mod Sql
 pub mod Figures
 pub mod Calls
+pub mod Helds
 pub mod Counts
 pub mod Sums
 pub mod FloatSums

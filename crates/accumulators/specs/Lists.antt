@@ -1,11 +1,10 @@
 -- Lists of optional values. Assumes nothing.
-use Rattle.std.specs.Prelude.{◌≡◌, ◌+◌, List, [], ◌∷◌, ◌++◌, length, Some, None, Option, refl}
+use Rattle.std.specs.Prelude.{◌≡◌, ◌+◌, List, [], ◌∷◌, ◌++◌, length, Option, refl}
 use Rattle.std.proofs.Common.{ap, ◌∙◌, length-append}
-use Rattle.std.specs.List.{AllByRecursion}
 use Rattle.rows.specs.Rows.{non_null}
 use Rattle.rows.proofs.Lists.{non_null-append}
 use Rattle.accumulators.specs.Sql.{null_if_none}
-use Rattle.accumulators.specs.Figures.{Each, missing_at_0}
+use Rattle.accumulators.specs.Figures.{missing_at_0}
 
 pub length-non_null-append : {V : Type 0} (xs ys : List (Option V)) → length (non_null (xs ++ ys)) ≡ length (non_null xs) + length (non_null ys)
 length-non_null-append xs ys = ap length (non_null-append xs ys) ∙ length-append (non_null xs) (non_null ys)
@@ -13,8 +12,3 @@ length-non_null-append xs ys = ap length (non_null-append xs ys) ∙ length-appe
 pub null_is : {V A : Type 0} (vs : List V) (a : A) → missing_at_0 (length vs) a ≡ null_if_none vs a
 null_is [] a = refl
 null_is (v ∷ vs) a = refl
-
-pub each_value : {V : Type 0} (P : V → Type 0) (xs : List (Option V)) → Each P xs → AllByRecursion P (non_null xs)
-each_value P [] e = tt
-each_value P (None ∷ xs) e = each_value P xs e
-each_value P (Some v ∷ xs) e = (e.0, each_value P xs e.1)

@@ -2,16 +2,11 @@
 use Rattle.std.specs.Prelude.{ℕ, zero, suc, ◌%◌, List, [], ◌∷◌, None, Option, slice_index_or, slice_set}
 use Rattle.accumulators.specs.Figures.{most_kept}
 use Rattle.accumulators.specs.Extremes.{one_or_0, key_or_0}
-use Rattle.accumulators.specs.declared.ring.Ring.{Ring}
 
 -- n rows from place p on
 abbrev pub ring_rows : List (Option ℕ) → ℕ → ℕ → List (Option ℕ)
 ring_rows ring p zero = []
 ring_rows ring p (suc n) = slice_index_or ring (p % most_kept) None ∷ ring_rows ring (suc p) n
-
--- the rows that a ring holds, oldest first
-abbrev pub rows_in : Ring → List (Option ℕ)
-rows_in r = ring_rows r.places r.first r.held
 
 -- one row's pair, written to two places
 abbrev pub put_pair : List ℕ → ℕ → Option ℕ → List ℕ

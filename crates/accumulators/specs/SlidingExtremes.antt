@@ -1,9 +1,8 @@
 -- MIN and MAX over rows that are kept: rows, then presence and key of each, oldest first. Assumes nothing.
 use Rattle.std.specs.Prelude.{ℕ, zero, suc, ◌+◌, ◌-◌, ◌*◌, Bool, cond, List, [], ◌∷◌, ◌++◌, map, length, drop, None, Option, nat_lt}
 use Rattle.std.specs.Option.{option_map}
-use Rattle.rows.specs.Rows.{non_null}
 use Rattle.accumulators.specs.Figures.{Figure, most_kept, rows_held}
-use Rattle.accumulators.specs.Extremes.{best, one_or_0, key_or_0}
+use Rattle.accumulators.specs.Extremes.{best, best_value, one_or_0, key_or_0}
 
 -- presence and key of each row
 abbrev pub pairs : List (Option ℕ) → List ℕ
@@ -20,7 +19,7 @@ keys_in (suc p ∷ k ∷ ns) = k ∷ keys_in ns
 abbrev pub sliding_extreme : {V : Type 0} → Bool → (V → ℕ) → (ℕ → V) → Figure V V
 sliding_extreme greatest keyed valued = record {
   capacity = most_kept;
-  answer = λ xs. option_map valued (best greatest None (map keyed (non_null xs)));
+  answer = best_value greatest keyed valued;
   state = λ xs. length xs ∷ pairs (map (option_map keyed) xs);
   answered = λ s. option_map valued (best greatest None (keys_in (drop 1 s)));
   updated = λ s ys. (rows_held s + length ys) ∷ (drop 1 s ++ pairs (map (option_map keyed) ys));

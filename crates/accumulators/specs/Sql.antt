@@ -1,9 +1,8 @@
 -- Set functions over the values of a group, as ISO/IEC 9075-2:2003 has them: null values are eliminated first
 -- (docs/RULES.md, section 4.2). Assumes nothing.
-use Rattle.std.specs.Prelude.{◌≡◌, ℕ, Bool, true, false, List, [], ◌∷◌, length, ℤ, pos, ◌+ℤ◌, Some, None, fold, Option, Float}
+use Rattle.std.specs.Prelude.{◌≡◌, ℕ, All, Contains, Bool, true, false, List, [], ◌∷◌, length, ℤ, pos, ◌+ℤ◌, Some, None, fold, Option, Float}
 use Rattle.std.specs.Float.{fin, binary64}
 use Rattle.std.specs.Float.Ieee.{add}
-use Rattle.std.specs.List.{ContainsAt, AllByRecursion}
 use Rattle.rows.specs.Rows.{non_null}
 
 -- COUNT is the number of values.
@@ -38,4 +37,4 @@ ahead true before v w = before w v
 -- MIN is one of the values, and none comes before it; MAX is one of them too, and comes before none.
 abbrev pub IsMinOrMax : {V : Type 0} → Bool → (V → V → Bool) → List V → Option V → Type 0
 IsMinOrMax greatest before vs None = vs ≡ []
-IsMinOrMax greatest before vs (Some v) = ContainsAt vs v × AllByRecursion (λ w. ahead greatest before w v ≡ false) vs
+IsMinOrMax greatest before vs (Some v) = Contains vs v × All (λ w. ahead greatest before w v ≡ false) vs

@@ -5,6 +5,7 @@ use Rattle.std.specs.Int.Signed.{mag}
 use Rattle.std.specs.Int.{int_wrap, w32, w64}
 use Rattle.std.proofs.lemmas.Int.{to_z-of_z, SFits-int_wrap, int_wrap_fits, int_wrap-add_left, int_wrap-add_right, int_wrap-sub_right, wrapping_add_is, wrapping_sub_is, ints}
 use Rattle.std.proofs.lemmas.Bool.Decides.{nat_tests}
+use Rattle.std.proofs.lemmas.List.Elements.{All-head, All-tail}
 use Rattle.rows.specs.Rows.{non_null}
 use Rattle.accumulators.specs.Sql.{null_if_none, total, sql_sum}
 use Rattle.accumulators.specs.Figures.{most_rows, Lawful, Retracting, Within, Each, rows_held, missing_at_0}
@@ -71,7 +72,9 @@ mag_add (negsuc a) (negsuc b) = omega arith
 few_small : (xs : List (Option ℤ)) → Each (FitsSigned w32) xs → mag (total (non_null xs)) ≤ length xs * 2 ^ 31
 few_small [] e = omega arith
 few_small (None ∷ xs) e = omega (arith, few_small xs e)
-few_small (Some v ∷ xs) e = omega (arith, few_small xs e.1, e.0.sfits, mag_add v (total (non_null xs)))
+few_small (Some v ∷ xs) e =
+    let first = All-head (FitsSigned w32) v (non_null xs) e in
+    omega (arith, few_small xs (All-tail (FitsSigned w32) v (non_null xs) e), first.sfits, mag_add v (total (non_null xs)))
 
 pub sum_exact : (xs : List (Option ℤ)) → length xs ≤ most_rows → Each (FitsSigned w32) xs → sum.answer xs ≡ sql_sum xs
 sum_exact xs h e = ap (null_if_none (non_null xs)) (int_wrap_fits w64 (total (non_null xs)) (record { sfits = omega (arith, few_small xs e) }))

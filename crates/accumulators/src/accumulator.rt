@@ -1,7 +1,7 @@
 //! The interfaces of accumulators, each told by which lists of optional values it may stand for.
 
 ghost use Rattle.std.specs.Prelude.{◌≡◌, ℕ, ◌≤◌, List, [], length, Option as Opt};
-ghost use Rattle.rows.specs.Batches.{batch};
+ghost use Rattle.rows.specs.Rows.{kept};
 ghost use Rattle.accumulators.specs.Figures.{Figure, Lawful, Retracting, Each};
 ghost use Rattle.accumulators.specs.Calls.{Updates, Writes};
 
@@ -33,7 +33,7 @@ pub trait Accumulator: Sized + Drop {
 
     /// Puts a batch behind the list; refused, unchanged, if the rows held would pass the capacity.
     fn update(&mut self, rows: &Arguments<Self::Value>) -> Result<(), Full>
-        ensures { Updates figure numbers self.old self.new (batch rows.now) result };
+        ensures { Updates figure numbers self.old self.new (kept rows.now) result };
 
     /// The answer; `None` is missing.
     fn evaluate(&self) -> Option<Self::Answer>
@@ -58,7 +58,7 @@ pub trait Retract: Accumulator {
 
     /// Drops a batch, which is the oldest part of the list stood for.
     fn retract(&mut self, rows: &Arguments<Self::Value>)
-        ensures { Self.Accumulator.numbers self.new ≡ retracted (Self.Accumulator.numbers self.old) (batch rows.now) };
+        ensures { Self.Accumulator.numbers self.new ≡ retracted (Self.Accumulator.numbers self.old) (kept rows.now) };
 
     ghost retracting: { Retracting Self.Accumulator.figure Self.Accumulator.stands retracted };
 }

@@ -1,7 +1,7 @@
 //! Figures over a whole group of rows, for every accumulator.
 
 ghost use Rattle.std.specs.Prelude.{◌≡◌, []};
-ghost use Rattle.rows.specs.Batches.{batch};
+ghost use Rattle.rows.specs.Rows.{kept};
 ghost use Rattle.accumulators.specs.Calls.{Aggregates, AnyCut, Slides};
 
 use crate::accumulator::{Accumulator, Retract};
@@ -18,7 +18,7 @@ pub fn default_value<A: Accumulator>() -> Option<A::Answer>
 /// The answer over the kept rows, as the SQL standard has it. However the same rows are cut into
 /// batches, an accumulator that takes one batch after the other comes to this answer.
 pub fn aggregate<A: Accumulator>(rows: &Arguments<A::Value>) -> Result<Option<A::Answer>, Full>
-    ensures value { Aggregates A.Accumulator.figure A.Value.Ordered.fits A.Accumulator.standard (batch rows.now) result }
+    ensures value { Aggregates A.Accumulator.figure A.Value.Ordered.fits A.Accumulator.standard (kept rows.now) result }
     ensures cut { AnyCut A.Accumulator.figure }
 {
     let mut group = A::new();
@@ -33,7 +33,7 @@ pub fn slide<A: Retract>(
     entering: &Arguments<A::Value>,
     leaving: &Arguments<A::Value>,
 ) -> Result<Option<A::Answer>, Full>
-    ensures { Slides A.Accumulator.figure A.Accumulator.stands A.Retract.retracted A.Accumulator.numbers accumulator.old accumulator.new (batch entering.now) (batch leaving.now) result }
+    ensures { Slides A.Accumulator.figure A.Accumulator.stands A.Retract.retracted A.Accumulator.numbers accumulator.old accumulator.new (kept entering.now) (kept leaving.now) result }
 {
     accumulator.update(entering)?;
     accumulator.retract(leaving);

@@ -1,14 +1,14 @@
 //! COUNT: how many rows are not missing, for every kind.
 
-ghost use Rattle.std.specs.Prelude.{◌≡◌, ◌≤◌, [], ◌∷◌};
-ghost use Rattle.accumulators.specs.Figures.{most_rows, Within};
+ghost use Rattle.std.specs.Prelude.{◌≡◌, [], ◌∷◌};
+ghost use Rattle.accumulators.specs.Figures.{Within};
 ghost use Rattle.accumulators.specs.Counts.{count, count_retracted};
 ghost use Rattle.accumulators.specs.Sql.{sql_count};
 ghost use Rattle.accumulators.specs.CountsLemmas.{count_lawful, count_retracting};
 ghost use Rattle.std.proofs.Common.{rules, arith};
 
 use crate::accumulator::{Accumulator, Retract};
-use crate::capacity::{ROWS, make_room};
+use crate::held::Held;
 use crate::refusals::{Full, Short};
 use crate::state::write_numbers;
 use kinds::ordered::Ordered;
@@ -22,10 +22,8 @@ const NUMBERS: usize = 2;
 /// How many of the rows put in are not missing.
 #[derive(Drop)]
 pub struct Count<V> {
-    rows: usize,
-    present: u64,
+    held: Held,
     kind: PhantomData<V>,
-    ghost few: { rows ≤ most_rows },
 }
 
 impl<V: Ordered> Accumulator for Count<V> {
@@ -33,7 +31,7 @@ impl<V: Ordered> Accumulator for Count<V> {
 
     type Answer = u64;
 
-    ghost numbers = { λ c. c.rows ∷ c.present ∷ [] };
+    ghost numbers = { λ c. c.held.rows ∷ c.held.present ∷ [] };
 
     ghost figure = { count V };
 
@@ -47,21 +45,18 @@ impl<V: Ordered> Accumulator for Count<V> {
 
     fn new() -> Count<V> {
         Count {
-            rows: 0,
-            present: 0,
+            held: Held::none(),
             kind: PhantomData,
         }
     }
 
     fn update(&mut self, rows: &Arguments<V>) -> Result<(), Full> {
-        let batch = rows.gather(&mut Nothing);
-        self.rows = make_room(self.rows, batch.rows, ROWS)?;
-        self.present = self.present.wrapping_add(batch.present as u64);
+        self.held = self.held.with(rows.gather(&mut Nothing))?;
         Ok(())
     }
 
     fn evaluate(&self) -> Option<u64> {
-        Some(self.present)
+        Some(self.held.present)
     }
 
     fn state_len(&self) -> usize {
@@ -69,7 +64,8 @@ impl<V: Ordered> Accumulator for Count<V> {
     }
 
     fn state(&self, out: &mut [u64]) -> Result<usize, Short> {
-        write_numbers(&[self.rows as u64, self.present], out)
+        let Held { rows, present } = self.held;
+        write_numbers(&[rows as u64, present], out)
     }
 }
 
@@ -80,11 +76,6 @@ impl<V: Ordered> Retract for Count<V> {
 
     fn retract(&mut self, rows: &Arguments<V>) {
         let batch = rows.gather(&mut Nothing);
-        if batch.rows > self.rows {
-            *self = Count::new();
-        } else {
-            self.rows -= batch.rows;
-            self.present = self.present.saturating_sub(batch.present as u64);
-        }
+        self.held = self.held.without(batch).unwrap_or(Held::none());
     }
 }

@@ -51,20 +51,14 @@ impl Direction for Greatest {
 pub(crate) fn better<D: Direction>(best: Option<u64>, key: u64) -> Option<u64>
     ensures { result ≡ better_key D.Direction.greatest best key }
 {
-    match best {
-        None => Some(key),
-        Some(old) => Some(if D::beats(key, old) { key } else { old }),
-    }
+    Some(best.map_or(key, |old| if D::beats(key, old) { key } else { old }))
 }
 
 /// A row in a state: 1 and its key, or 0 and 0 where it is missing.
 pub(crate) fn presence_and_key(row: Option<u64>) -> (u64, u64)
     ensures { result ≡ (one_or_0 row, key_or_0 row) }
 {
-    match row {
-        None => (0, 0),
-        Some(key) => (1, key),
-    }
+    row.map_or((0, 0), |key| (1, key))
 }
 
 /// The best key of the values gathered.
@@ -133,10 +127,7 @@ impl<V: Ordered, D: Direction> Accumulator for Extreme<V, D> {
     }
 
     fn evaluate(&self) -> Option<V> {
-        match self.best {
-            None => None,
-            Some(key) => Some(V::from_key(key)),
-        }
+        Some(V::from_key(self.best?))
     }
 
     fn state_len(&self) -> usize {

@@ -5,14 +5,14 @@ ghost use Rattle.std.specs.Float.Ieee as Ieee;
 ghost use Rattle.std.specs.Float.{binary64};
 ghost use Rattle.std.specs.Float.Ieee.{add};
 ghost use Rattle.kinds.specs.Keys.{float_key};
-ghost use Rattle.accumulators.specs.Figures.{most_rows, Within};
+ghost use Rattle.accumulators.specs.Figures.{Within};
 ghost use Rattle.accumulators.specs.Sql.{sql_float_sum};
 ghost use Rattle.accumulators.specs.FloatSums.{float_sum};
 ghost use Rattle.accumulators.specs.FloatSumsLemmas.{float_sum_lawful};
 ghost use Rattle.std.proofs.Common.{rules, arith};
 
 use crate::accumulator::Accumulator;
-use crate::capacity::{ROWS, make_room};
+use crate::held::Held;
 use crate::refusals::{Full, Short};
 use crate::state::write_numbers;
 use kinds::ordered::Ordered;
@@ -39,12 +39,10 @@ const NUMBERS: usize = 3;
 /// The sum of the floats put in.
 #[derive(Drop)]
 pub struct FloatSum {
-    rows: usize,
-    present: usize,
+    held: Held,
     total: f64,
-    ghost few: { rows ≤ most_rows },
-    ghost fewer: { present ≤ rows },
-    ghost held: { T (Ieee.fits binary64 total) },
+    ghost fewer: { held.present ≤ held.rows },
+    ghost fits: { T (Ieee.fits binary64 total) },
 }
 
 impl Accumulator for FloatSum {
@@ -52,7 +50,7 @@ impl Accumulator for FloatSum {
 
     type Answer = f64;
 
-    ghost numbers = { λ s. s.rows ∷ s.present ∷ float_key s.total ∷ [] };
+    ghost numbers = { λ s. s.held.rows ∷ s.held.present ∷ float_key s.total ∷ [] };
 
     ghost figure = { float_sum };
 
@@ -66,8 +64,7 @@ impl Accumulator for FloatSum {
 
     fn new() -> FloatSum {
         FloatSum {
-            rows: 0,
-            present: 0,
+            held: Held::none(),
             total: 0.0,
         }
     }
@@ -75,22 +72,15 @@ impl Accumulator for FloatSum {
     fn update(&mut self, rows: &Arguments<f64>) -> Result<(), Full> {
         let mut total = Total { value: self.total };
         let batch = rows.gather(&mut total);
-        let rows = make_room(self.rows, batch.rows, ROWS)?;
-        let present = self.present + batch.present;
         *self = FloatSum {
-            rows,
-            present,
+            held: self.held.with(batch)?,
             total: total.value,
         };
         Ok(())
     }
 
     fn evaluate(&self) -> Option<f64> {
-        if self.present == 0 {
-            None
-        } else {
-            Some(self.total)
-        }
+        (self.held.present != 0).then_some(self.total)
     }
 
     fn state_len(&self) -> usize {
@@ -98,9 +88,7 @@ impl Accumulator for FloatSum {
     }
 
     fn state(&self, out: &mut [u64]) -> Result<usize, Short> {
-        write_numbers(
-            &[self.rows as u64, self.present as u64, self.total.key()],
-            out,
-        )
+        let Held { rows, present } = self.held;
+        write_numbers(&[rows as u64, present, self.total.key()], out)
     }
 }

@@ -9,6 +9,7 @@ pub mod capacity;
 pub mod count;
 pub mod extreme;
 pub mod float_sum;
+mod held;
 pub mod refusals;
 mod ring;
 pub mod sliding_extreme;

@@ -2,13 +2,13 @@
 
 ghost use Rattle.std.specs.Prelude.{◌≡◌, ◌+◌, ◌≤◌, ◌∷◌, ◌++◌, map, length, None};
 ghost use Rattle.std.specs.Option.{option_map};
-ghost use Rattle.rows.specs.Batches.{batch};
+ghost use Rattle.rows.specs.Rows.{kept};
 ghost use Rattle.accumulators.specs.Figures.{most_kept, Within};
 ghost use Rattle.rows.specs.Rows.{non_null};
 ghost use Rattle.accumulators.specs.Sql.{IsMinOrMax};
 ghost use Rattle.accumulators.specs.Extremes.{best as best_key};
 ghost use Rattle.accumulators.specs.SlidingExtremes.{sliding_extreme, oldest_dropped, pairs};
-ghost use Rattle.accumulators.specs.Rings.{put_pair, rows_in};
+ghost use Rattle.accumulators.specs.Rings.{put_pair};
 ghost use Rattle.accumulators.specs.SlidingExtremesLemmas.{sliding_lawful, sliding_retracting};
 ghost use Rattle.accumulators.specs.ExtremesLemmas.{extreme_standard};
 
@@ -30,34 +30,23 @@ pub struct SlidingExtreme<V, D> {
     direction: PhantomData<D>,
 }
 
-fn key_of<V: Ordered>(value: Option<V>) -> Option<u64>
-    ensures { result ≡ option_map V.Ordered.keyed value }
-{
-    match value {
-        None => None,
-        Some(value) => Some(value.key()),
-    }
-}
-
 /// Puts the rows of a batch into the ring, behind the newest.
 fn push_all<V: Ordered>(ring: &mut Ring, rows: &Arguments<V>)
-    requires { length (rows_in ring.old) + length (batch rows.now) ≤ most_kept }
-    ensures { rows_in ring.new ≡ rows_in ring.old ++ map (option_map V.Ordered.keyed) (batch rows.now) }
+    requires { length ring.old + length (kept rows.now) ≤ most_kept }
+    ensures { ring.new ≡ ring.old ++ map (option_map V.Ordered.keyed) (kept rows.now) }
 {
-    for i in 0..rows.len() {
-        if let Some(argument) = rows.row(i) {
-            ring.push(key_of(argument));
-        }
+    for argument in rows.iter() {
+        ring.push(argument.map(V::key));
     }
 }
 
 /// The best key in the ring.
 fn best<D: Direction>(ring: &Ring) -> Option<u64>
-    ensures { result ≡ best_key D.Direction.greatest None (non_null (rows_in ring.now)) }
+    ensures { result ≡ best_key D.Direction.greatest None (non_null ring.now) }
 {
     let mut best = None;
-    for i in 0..ring.len() {
-        if let Some(key) = ring.row(i) {
+    for row in ring.iter() {
+        if let Some(key) = row {
             best = better::<D>(best, key);
         }
     }
@@ -69,7 +58,7 @@ impl<V: Ordered, D: Direction> Accumulator for SlidingExtreme<V, D> {
 
     type Answer = V;
 
-    ghost numbers = { λ e. length (rows_in e.ring) ∷ pairs (rows_in e.ring) };
+    ghost numbers = { λ e. length e.ring ∷ pairs e.ring };
 
     ghost figure = { sliding_extreme D.Direction.greatest V.Ordered.keyed V.Ordered.valued };
 
@@ -97,10 +86,7 @@ impl<V: Ordered, D: Direction> Accumulator for SlidingExtreme<V, D> {
     }
 
     fn evaluate(&self) -> Option<V> {
-        match best::<D>(&self.ring) {
-            None => None,
-            Some(key) => Some(V::from_key(key)),
-        }
+        Some(V::from_key(best::<D>(&self.ring)?))
     }
 
     fn state_len(&self) -> usize {
@@ -113,8 +99,8 @@ impl<V: Ordered, D: Direction> Accumulator for SlidingExtreme<V, D> {
             return Err(Short { needed });
         }
         out[0] = self.ring.len() as u64;
-        for i in 0..self.ring.len() {
-            put_pair(out, 1 + 2 * i, self.ring.row(i));
+        for (i, row) in self.ring.iter().enumerate() {
+            put_pair(out, 1 + 2 * i, row);
         }
         Ok(needed)
     }

@@ -1,15 +1,15 @@
 //! SUM of wholes, to signed 64 bits.
 
-ghost use Rattle.std.specs.Prelude.{◌≡◌, ◌≤◌, [], ◌∷◌, ◌+ℤ◌};
+ghost use Rattle.std.specs.Prelude.{◌≡◌, [], ◌∷◌, ◌+ℤ◌};
 ghost use Rattle.std.proofs.Common.{of_z};
 ghost use Rattle.std.specs.Int.{int_wrap, w64};
-ghost use Rattle.accumulators.specs.Figures.{most_rows, Within};
+ghost use Rattle.accumulators.specs.Figures.{Within};
 ghost use Rattle.accumulators.specs.Sql.{sql_sum};
 ghost use Rattle.accumulators.specs.Sums.{sum, sum_retracted};
 ghost use Rattle.accumulators.specs.SumsLemmas.{sum_lawful, sum_exact, sum_retracting};
 
 use crate::accumulator::{Accumulator, Retract};
-use crate::capacity::{ROWS, make_room};
+use crate::held::Held;
 use crate::refusals::{Full, Short};
 use crate::state::write_numbers;
 use rows::arguments::Arguments;
@@ -35,10 +35,8 @@ const NUMBERS: usize = 3;
 /// The sum of the wholes put in.
 #[derive(Drop)]
 pub struct Sum {
-    rows: usize,
-    present: u64,
+    held: Held,
     total: i64,
-    ghost few: { rows ≤ most_rows },
 }
 
 impl Accumulator for Sum {
@@ -46,7 +44,7 @@ impl Accumulator for Sum {
 
     type Answer = i64;
 
-    ghost numbers = { λ s. s.rows ∷ s.present ∷ of_z w64 s.total ∷ [] };
+    ghost numbers = { λ s. s.held.rows ∷ s.held.present ∷ of_z w64 s.total ∷ [] };
 
     ghost figure = { sum };
 
@@ -60,8 +58,7 @@ impl Accumulator for Sum {
 
     fn new() -> Sum {
         Sum {
-            rows: 0,
-            present: 0,
+            held: Held::none(),
             total: 0,
         }
     }
@@ -69,18 +66,13 @@ impl Accumulator for Sum {
     fn update(&mut self, rows: &Arguments<i32>) -> Result<(), Full> {
         let mut batch_total = Total { value: 0 };
         let batch = rows.gather(&mut batch_total);
-        self.rows = make_room(self.rows, batch.rows, ROWS)?;
-        self.present = self.present.wrapping_add(batch.present as u64);
+        self.held = self.held.with(batch)?;
         self.total = self.total.wrapping_add(batch_total.value);
         Ok(())
     }
 
     fn evaluate(&self) -> Option<i64> {
-        if self.present == 0 {
-            None
-        } else {
-            Some(self.total)
-        }
+        (self.held.present != 0).then_some(self.total)
     }
 
     fn state_len(&self) -> usize {
@@ -88,10 +80,8 @@ impl Accumulator for Sum {
     }
 
     fn state(&self, out: &mut [u64]) -> Result<usize, Short> {
-        write_numbers(
-            &[self.rows as u64, self.present, self.total.cast_unsigned()],
-            out,
-        )
+        let Held { rows, present } = self.held;
+        write_numbers(&[rows as u64, present, self.total.cast_unsigned()], out)
     }
 }
 
@@ -103,12 +93,12 @@ impl Retract for Sum {
     fn retract(&mut self, rows: &Arguments<i32>) {
         let mut batch_total = Total { value: 0 };
         let batch = rows.gather(&mut batch_total);
-        if batch.rows > self.rows {
-            *self = Sum::new();
-        } else {
-            self.rows -= batch.rows;
-            self.present = self.present.saturating_sub(batch.present as u64);
-            self.total = self.total.wrapping_sub(batch_total.value);
+        match self.held.without(batch) {
+            None => *self = Sum::new(),
+            Some(held) => {
+                self.held = held;
+                self.total = self.total.wrapping_sub(batch_total.value);
+            }
         }
     }
 }

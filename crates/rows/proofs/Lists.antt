@@ -1,10 +1,6 @@
 -- Lists of optional values. Assumes nothing.
-use Rattle.std.proofs.Common.{◌≡◌, ◌≤◌, List, [], ◌∷◌, ◌++◌, length, Some, None, fold, Option, refl, ap, arith}
+use Rattle.std.proofs.Common.{◌≡◌, ◌≤◌, List, [], ◌∷◌, ◌++◌, length, Some, None, Option, refl, ap, arith}
 use Rattle.rows.specs.Rows.{non_null}
-
-pub fold-append : {S V : Type 0} (f : S → V → S) (s : S) (xs ys : List V) → fold f s (xs ++ ys) ≡ fold f (fold f s xs) ys
-fold-append f s [] ys = refl
-fold-append f s (x ∷ xs) ys = fold-append f (f s x) xs ys
 
 pub non_null-append : {V : Type 0} (xs ys : List (Option V)) → non_null (xs ++ ys) ≡ non_null xs ++ non_null ys
 non_null-append [] ys = refl

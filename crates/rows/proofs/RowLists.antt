@@ -1,10 +1,10 @@
 -- Lists of rows, column by column. Assumes nothing.
-use Rattle.std.proofs.Common.{◌≡◌, ℕ, zero, suc, ◌+◌, ◌-◌, ◌<◌, ◌≤◌, min, not, eqb, List, [], ◌∷◌, length, get_or, take, drop, replicate, Some, None, Option, sym, refl, ap, ◌∙◌, subst, inl, inr, le_trans, arith, Bor, eq-eqb, ne_eqb}
+use Rattle.std.proofs.Common.{◌≡◌, ℕ, zero, suc, ◌+◌, ◌-◌, ◌<◌, ◌≤◌, min, Bool, true, false, cond, not, eqb, List, [], ◌∷◌, length, get_or, take, drop, replicate, Some, None, Option, sym, refl, ap, ◌∙◌, subst, inl, inr, le_trans, arith, Bor, eq-eqb, ne_eqb}
 use Rattle.std.proofs.lemmas.Bool.{cases_lt}
 use Rattle.std.proofs.lemmas.List.{take-replicate, drop-replicate, drop-take, drop_all, take_all, length-take, length-drop, length-replicate}
-use Rattle.rows.specs.Rows.{rows, optional, mask_bytes, kept}
-use Rattle.rows.specs.Batches.{rows_of}
-use Rattle.rows.specs.declared.arguments.Arguments.{Arguments}
+use Rattle.rows.specs.Rows.{Row, rows, optional, mask_bytes, kept}
+use Rattle.rows.specs.Columns.{rows_of, Aligned}
+use Rattle.rows.specs.declared.arguments.Arguments.TheInside.{Inside}
 
 pub rows_length : {V : Type 0} (vs : List V) (ps ms : List ℕ) → length ps ≡ length vs → length ms ≡ length vs
     → length (rows vs ps ms) ≡ length vs
@@ -96,16 +96,16 @@ ones_at (suc n) zero h e = omega arith
 ones_at (suc n) (suc i) h e = ones_at n i (omega arith) e
 
 -- a row that the mask keeps puts its argument into the batch, and any other nothing
-module _ {V : Type 0} (a : Arguments V) (i : ℕ) (h : i < length a.values.now) where
+module _ {V : Type 0} (a : Inside V) (one : Aligned a) (i : ℕ) (h : i < length a.values.now) where
   abbrev mask_at : Option (Bor (List ℕ)) → ℕ
   mask_at m = get_or (mask_bytes m (length a.values.now)) i 0
 
   pub row_kept : (v : V) (x : Option V) → v ≡ get_or a.values.now i v → x ≡ optional v (get_or a.presence.now i 0) → (mask_at a.mask ≡ 0 → ⊥)
       → kept (drop i (rows_of a)) ≡ x ∷ kept (drop (suc i) (rows_of a))
-  row_kept v x e f n = rw (rows_at a.values.now a.presence.now (mask_bytes a.mask (length a.values.now)) i v a.aligned a.masked h, ne_eqb (mask_at a.mask) 0 n, f, ← e)
+  row_kept v x e f n = rw (rows_at a.values.now a.presence.now (mask_bytes a.mask (length a.values.now)) i v one.0 one.1 h, ne_eqb (mask_at a.mask) 0 n, f, ← e)
 
   pub row_left_out : (v : V) → mask_at a.mask ≡ 0 → kept (drop i (rows_of a)) ≡ kept (drop (suc i) (rows_of a))
-  row_left_out v e = rw (rows_at a.values.now a.presence.now (mask_bytes a.mask (length a.values.now)) i v a.aligned a.masked h, eq-eqb (mask_at a.mask) 0 e)
+  row_left_out v e = rw (rows_at a.values.now a.presence.now (mask_bytes a.mask (length a.values.now)) i v one.0 one.1 h, eq-eqb (mask_at a.mask) 0 e)
 
   pub unmasked : a.mask ≡ None → mask_at a.mask ≡ 0 → ⊥
   unmasked e = subst (λ (m : Option (Bor (List ℕ))). mask_at m ≡ 0 → ⊥) (sym e) (ones_at (length a.values.now) i h)
@@ -114,7 +114,16 @@ module _ {V : Type 0} (a : Arguments V) (i : ℕ) (h : i < length a.values.now) 
   masked_by m e = ap (λ (m : Option (Bor (List ℕ))). mask_at m) e
 
 -- behind the rows there is nothing
-pub past_the_rows : {V : Type 0} (a : Arguments V) (i : ℕ) → length a.values.now ≤ i → kept (drop i (rows_of a)) ≡ kept (drop (suc i) (rows_of a))
-past_the_rows a i h =
-    let l = rows_length a.values.now a.presence.now (mask_bytes a.mask (length a.values.now)) a.aligned a.masked in
+pub past_the_rows : {V : Type 0} (a : Inside V) → Aligned a → (i : ℕ) → length a.values.now ≤ i → kept (drop i (rows_of a)) ≡ kept (drop (suc i) (rows_of a))
+past_the_rows a one i h =
+    let l = rows_length a.values.now a.presence.now (mask_bytes a.mask (length a.values.now)) one.0 one.1 in
     ap kept (drop_all i (rows_of a) (omega arith) ∙ sym (drop_all (suc i) (rows_of a) (omega arith)))
+
+-- a batch has no more rows than there are
+pub kept_few : {V : Type 0} (rs : List (Row V)) → length (kept rs) ≤ length rs
+kept_few [] = omega arith
+kept_few (r ∷ rs) = go r.kept (kept_few rs)
+  where
+    go : (b : Bool) → length (kept rs) ≤ length rs → length (cond b (r.argument ∷ kept rs) (kept rs)) ≤ suc (length rs)
+    go true h = omega (arith, h)
+    go false h = omega (arith, h)

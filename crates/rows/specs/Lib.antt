@@ -1,3 +1,3 @@
 pub mod Rows
-pub mod Batches
+pub mod Columns
 pub mod Lengths

@@ -1,6 +1,9 @@
 //! What is made of a batch, one value after the other, oldest first.
 
-ghost use Rattle.std.specs.Prelude.{◌≡◌};
+ghost use Rattle.std.specs.Prelude.{◌≡◌, ◌≤◌, length, fold};
+ghost use Rattle.rows.specs.Rows.{kept, non_null};
+
+use crate::arguments::Arguments;
 
 /// A figure that takes one value more.
 pub trait Gather<V> {
@@ -25,4 +28,25 @@ impl<V: Copy> Gather<V> for Nothing {
 pub struct Tally {
     pub rows: usize,
     pub present: usize,
+}
+
+impl<'a, V: Copy> Arguments<'a, V> {
+    /// Counts the rows of the batch, and hands its values on, oldest first.
+    pub fn gather<G: Gather<V>>(&self, figure: &mut G) -> Tally
+        ensures rows { result.rows ≡ length (kept self.now) }
+        ensures present { result.present ≡ length (non_null (kept self.now)) }
+        ensures fewer { result.present ≤ result.rows }
+        ensures figure { figure.new ≡ fold G.Gather.gathered figure.old (non_null (kept self.now)) }
+    {
+        let mut rows = 0;
+        let mut present = 0;
+        for argument in self.iter() {
+            rows += 1;
+            if let Some(value) = argument {
+                present += 1;
+                figure.gather(value);
+            }
+        }
+        Tally { rows, present }
+    }
 }

@@ -4,4 +4,5 @@
 
 pub mod arguments;
 pub mod gather;
+pub mod kept;
 pub mod misfit;

@@ -1,22 +1,12 @@
 //! Columns of different lengths.
 
-use std::error::Error;
-use std::fmt;
+use thiserror::Error;
 
 /// The first column that differs in length from the arguments.
-#[derive(Clone, Copy, PartialEq, Eq, Debug)]
+#[derive(Clone, Copy, PartialEq, Eq, Debug, Error)]
 pub enum Misfit {
+    #[error("presence differs in length from the arguments")]
     Presence,
+    #[error("the mask differs in length from the arguments")]
     Mask,
 }
-
-impl fmt::Display for Misfit {
-    fn fmt<W: fmt::Write>(&self, f: &mut fmt::Formatter<W>) -> fmt::Result {
-        match self {
-            Misfit::Presence => write!(f, "presence differs in length from the arguments"),
-            Misfit::Mask => write!(f, "the mask differs in length from the arguments"),
-        }
-    }
-}
-
-impl Error for Misfit {}

@@ -1,6 +1,6 @@
 use Rattle.std.proofs.Common.{sym, ap, ◌∙◌, subst}
 use Rattle.std.proofs.lemmas.Result.{err_from_is_err_and}
-use Rattle.rows.specs.Batches.{batch}
+use Rattle.rows.specs.Rows.{kept}
 use Rattle.accumulators.proofs.Aggregates.{any_cut, whole, too_many}
 use Rattle.accumulators.proofs.aggregate.aggregate.Goals as goal
 
@@ -9,7 +9,7 @@ returns-in_err-update g c =
     let F = g.A.Accumulator.figure in
     let laws = g.met.A.Accumulator.lawful in
     let numbers = g.A.Accumulator.numbers in
-    let xs = batch c.args.rows.now in
+    let xs = kept c.args.rows.now in
     let told = c.in_err-update.ensures in
     let p = err_from_is_err_and c.from_residual.result c.from_residual.ensures.1 in
     record {
@@ -22,7 +22,7 @@ returns g c =
     let F = g.A.Accumulator.figure in
     let numbers = g.A.Accumulator.numbers in
     let laws = g.met.A.Accumulator.lawful in
-    let xs = batch c.args.rows.now in
+    let xs = kept c.args.rows.now in
     let told = c.in_ok-update.ensures in
     let w = whole F g.A.Accumulator.stands laws (numbers c.new-group.result) xs c.new-group.ensures told.0 in
     let is = c.evaluate.ensures ∙ ap F.answered told.1 ∙ w.1 in

@@ -1,9 +1,8 @@
-use Rattle.std.proofs.Common.{◌≡◌, drop, None}
+use Rattle.std.proofs.Common.{◌≡◌, None}
 use Rattle.rows.specs.Rows.{non_null}
 use Rattle.accumulators.specs.Extremes.{best}
-use Rattle.accumulators.specs.Rings.{rows_in}
 use Rattle.accumulators.proofs.sliding_extreme.best.Given as goal
 
-abbrev pub invariant-loop-i : goal.invariant-loop-i
-invariant-loop-i g l =
-    best g.D.Direction.greatest l.best (non_null (drop l.i (rows_in l.ring))) ≡ best g.D.Direction.greatest None (non_null (rows_in l.ring))
+abbrev pub invariant-loop-row : goal.invariant-loop-row
+invariant-loop-row g l =
+    best g.D.Direction.greatest l.best (non_null l.row-iterator) ≡ best g.D.Direction.greatest None (non_null l.ring)

@@ -1,7 +1,10 @@
-use Rattle.rows.specs.Batches.{rows_of}
-use Rattle.accumulators.specs.Rings.{rows_in}
-use Rattle.accumulators.specs.SlidingExtremesLemmas.{Pushed}
+use Rattle.std.proofs.Common.{◌≡◌, ◌+◌, ◌≤◌, ◌++◌, map, length}
+use Rattle.std.specs.Option.{option_map}
+use Rattle.rows.specs.Rows.{kept}
+use Rattle.accumulators.specs.Figures.{most_kept}
 use Rattle.accumulators.proofs.sliding_extreme.push_all.Given as goal
 
-abbrev pub invariant-loop-i : goal.invariant-loop-i
-invariant-loop-i g l = Pushed g.V.Ordered.keyed (rows_of l.rows) (rows_in l.initial.ring) l.i (rows_in l.ring)
+abbrev pub invariant-loop-argument : goal.invariant-loop-argument
+invariant-loop-argument g l =
+    (l.ring ++ map (option_map g.V.Ordered.keyed) l.argument-iterator ≡ l.initial.ring ++ map (option_map g.V.Ordered.keyed) (kept l.rows))
+    × (length l.ring + length l.argument-iterator ≤ most_kept)

@@ -1,6 +1,5 @@
 use Rattle.std.proofs.Common.{◌+◌, map, sym, ap, ◌∙◌, arith}
-use Rattle.rows.specs.Batches.{batch}
-use Rattle.rows.specs.Rows.{non_null}
+use Rattle.rows.specs.Rows.{kept, non_null}
 use Rattle.accumulators.specs.Extremes.{best, extreme_state}
 use Rattle.accumulators.specs.ExtremesLemmas.{gathered_best, held_best}
 use Rattle.accumulators.proofs.extreme.ExtremeAccumulator.update.Goals as goal
@@ -9,7 +8,7 @@ pub returns : goal.returns
 returns g c =
     let a = c.args.self.now in
     let told = c.gather-batch.ensures in
-    let vs = non_null (batch c.args.rows.now) in
+    let vs = non_null (kept c.args.rows.now) in
     let greatest = g.D.Direction.greatest in
     let keyed = g.V.Ordered.keyed in
     let room = c.in_ok-self.ensures in

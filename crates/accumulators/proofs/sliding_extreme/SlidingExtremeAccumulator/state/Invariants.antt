@@ -1,6 +1,9 @@
-use Rattle.accumulators.specs.Rings.{rows_in}
-use Rattle.accumulators.specs.SlidingExtremesLemmas.{Written}
+use Rattle.std.proofs.Common.{◌≡◌, ◌+◌, length, drop}
+use Rattle.accumulators.proofs.Kept.{Written}
 use Rattle.accumulators.proofs.sliding_extreme.SlidingExtremeAccumulator.state.Given as goal
 
 abbrev pub invariant-loop-i : goal.invariant-loop-i
-invariant-loop-i g l = Written (rows_in l.self.ring) l.initial.out l.i l.out
+invariant-loop-i g l =
+    (l.row-iterator ≡ drop l.i l.self.ring)
+    × (l.i + length l.row-iterator ≡ length l.self.ring)
+    × Written l.self.ring l.initial.out l.i l.out

@@ -1,7 +1,6 @@
-use Rattle.accumulators.specs.Rings.{rows_in}
-use Rattle.rows.specs.Batches.{batch}
-use Rattle.accumulators.specs.SlidingExtremesLemmas.{dropped}
+use Rattle.rows.specs.Rows.{kept}
+use Rattle.accumulators.proofs.Kept.{dropped}
 use Rattle.accumulators.proofs.sliding_extreme.SlidingExtremeRetract.retract.Goals as goal
 
 pub returns : goal.returns
-returns g c = dropped (rows_in c.args.self.now.ring) (rows_in c.drop_oldest.new.self) _ (batch c.args.rows.now) c.drop_oldest.ensures c.gather.ensures.rows
+returns g c = dropped c.args.self.now.ring (c.drop_oldest.new.self) _ (kept c.args.rows.now) c.drop_oldest.ensures c.gather.ensures.rows

@@ -3,4 +3,4 @@ use Rattle.accumulators.specs.SumsLemmas.{bits_0}
 use Rattle.accumulators.proofs.sum.SumAccumulator.new.Goals as goal
 
 pub returns : goal.returns
-returns c = ap (λ z. 0 ∷ 0 ∷ z ∷ []) (sym bits_0)
+returns c = rw (c.none.ensures.rows, c.none.ensures.present) (ap (λ z. 0 ∷ 0 ∷ z ∷ []) (sym bits_0))

@@ -1,25 +1,25 @@
 use Rattle.std.proofs.Common.{◌-◌, ◌<◌, ◌≤◌, [], ◌∷◌, length, ap, ◌∙◌, arith, w64, SFits, rules, le-ltb, lt-ltb}
-use Rattle.rows.specs.Batches.{batch}
-use Rattle.rows.specs.Rows.{non_null}
+use Rattle.rows.specs.Rows.{kept, non_null}
 use Rattle.accumulators.specs.SumsLemmas.{bits_0, total_taken}
 use Rattle.accumulators.proofs.sum.SumRetract.retract.Goals as goal
 
-pub returns-then-batch-self : goal.returns-then-batch-self
-returns-then-batch-self c =
-    let xs = batch c.args.rows.now in
-    let more : c.args.self.now.rows < length xs = omega (arith, c.gather-batch.ensures.rows) in
-    rw (lt-ltb c.args.self.now.rows (length xs) more) (c.new.ensures ∙ ap (λ z. 0 ∷ 0 ∷ z ∷ []) bits_0)
+pub returns-in-None : goal.returns-in-None
+returns-in-None c =
+    let xs = kept c.args.rows.now in
+    let more : c.args.self.now.held.rows < length xs = omega (arith, c.gather-batch.ensures.rows, c.in-None.ensures) in
+    rw (lt-ltb c.args.self.now.held.rows (length xs) more) (c.new.ensures ∙ ap (λ z. 0 ∷ 0 ∷ z ∷ []) bits_0)
 
-pub returns-else-batch-self : goal.returns-else-batch-self
-returns-else-batch-self c =
+pub returns-in-Some : goal.returns-in-Some
+returns-in-Some c =
     let a = c.args.self.now in
     let b = c.gather-batch.new.figure in
     let told = c.gather-batch.ensures in
-    let xs = batch c.args.rows.now in
-    let enough : length xs ≤ a.rows = omega (arith, told.rows) in
+    let left = c.in-Some.ensures in
+    let xs = kept c.args.rows.now in
+    let enough : length xs ≤ a.held.rows = omega (arith, told.rows, left.0) in
     let fits_total : SFits w64 a.total = search rules in
     let fits_batch : SFits w64 b.value = search rules in
-    let r = ap (λ n. a.rows - n) told.rows in
-    let p = c.saturating_sub-self.ensures ∙ ap (λ n. a.present - n) told.present in
+    let r = left.1 ∙ ap (λ n. a.held.rows - n) told.rows in
+    let p = left.2 ∙ ap (λ n. a.held.present - n) told.present in
     let t = total_taken a.total b (non_null xs) fits_total fits_batch told.figure in
-    rw (le-ltb a.rows (length xs) enough) (λ i. r i ∷ p i ∷ t i ∷ [])
+    rw (le-ltb a.held.rows (length xs) enough) (λ i. r i ∷ p i ∷ t i ∷ [])
