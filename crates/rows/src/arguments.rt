@@ -1,6 +1,6 @@
 //! Lent columns: arguments, their presence, and which rows a filter keeps.
 
-ghost use Rattle.std.specs.Prelude.{◌≡◌, ℕ, suc, ◌-◌, ◌≤◌, ◌++◌, length, take, drop};
+ghost use Rattle.std.specs.Prelude.{◌≡◌, ℕ, suc, ◌-◌, ◌≤◌, ◌++◌, length, take, drop, IfOk};
 ghost use Rattle.std.specs.Option.{option_to_list};
 ghost use Rattle.rows.specs.Rows.{kept, mask_bytes, optional, rows};
 ghost use Rattle.rows.specs.Lengths.{Measures};
@@ -80,6 +80,19 @@ impl<'a, V: Copy> Arguments<'a, V> {
             presence: &presence[..len],
             mask: mask_part(mask, 0, len),
         }
+    }
+
+    /// The rows of columns of one length; else the first that departs from the arguments.
+    pub fn try_new(
+        values: &'a [V],
+        presence: &'a [u8],
+        mask: Option<&'a [u8]>,
+    ) -> Result<Arguments<'a, V>, Misfit>
+        ensures lengths { Measures (length values.now) (length presence.now) (length (mask_bytes mask.entry (length values.now))) result }
+        ensures rows { IfOk result (λ a. a ≡ rows values.now presence.now (mask_bytes mask.entry (length values.now))) }
+    {
+        Arguments::check_lengths(values, presence, mask)?;
+        Ok(Arguments::new(values, presence, mask))
     }
 
     /// The rows from `start` on and before `end`, as many of them as there are.
