@@ -68,7 +68,7 @@ module _ {O : Type 0} (keyed : O → ℕ) (base : ℕ) where
       step true f = absurd (both_ways (precedes o (moved o x (seat P i)) r) (not-true (precedes o (moved o x (seat P i)) r) e) (end_back o P h x r i l f))
 
 -- ---- the frames of a rule
-module _ {O : Type 0} (keyed : O → ℕ) (base : ℕ) (o : Option SortOptions) (a b : WindowFrameBound) (W : WellMade o a b) where
+module _ {O : Type 0} (keyed : O → ℕ) (base : ℕ) (o : Option SortOptions) (a b : WindowFrameBound) (W : WellMade (record { start = a; end = b; order = o })) where
   abbrev rule : Rule O
   rule = range_rule keyed base o a b
 

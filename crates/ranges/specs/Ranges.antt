@@ -8,13 +8,14 @@ use Rattle.bounds.specs.Orders.{at, row_ahead}
 use Rattle.frames.specs.Rules.{Rule}
 use Rattle.ranges.specs.Scans.{first_from}
 use Rattle.frames.specs.Standard.{start_excludes, end_excludes, range_belongs}
+use Rattle.frames.specs.Mirrors.{Shape}
 
 -- two bounds that make a frame
-pub record WellMade (order : Option SortOptions) (start end : WindowFrameBound) : Type 0 where
-  pub started : is_unbounded_following start ≡ false
-  pub ended : is_unbounded_preceding end ≡ false
-  pub forward : behind start end ≡ false
-  pub measured : (distant start || distant end) && not (is_some order) ≡ false
+pub record WellMade (f : Shape) : Type 0 where
+  pub started : is_unbounded_following f.start ≡ false
+  pub ended : is_unbounded_preceding f.end ≡ false
+  pub forward : behind f.start f.end ≡ false
+  pub measured : (distant f.start || distant f.end) && not (is_some f.order) ≡ false
 
 -- an end that lies before its row
 abbrev pub range_causal : WindowFrameBound → Bool
@@ -56,3 +57,14 @@ module _ {O : Type 0} (keyed : O → ℕ) (base : ℕ) (order : Option SortOptio
     belongs = range_belongs keyed base order start end;
     earliest = true;
   }
+
+-- whether a bound of a frame removes a row with the value v, seen from a row with the value here
+module _ {O : Type 0} (keyed : O → ℕ) (base : ℕ) (f : Shape) where
+  abbrev pub removes_before : Option O → Option O → Bool
+  removes_before here v = start_excludes keyed base f.order f.start here v
+
+  abbrev pub removes_behind : Option O → Option O → Bool
+  removes_behind here v = end_excludes keyed base f.order f.end here v
+
+  abbrev pub rule_of : Rule O
+  rule_of = range_rule keyed base f.order f.start f.end

@@ -77,11 +77,7 @@ fn target(bound: WindowFrameBound, place: i64, sort: SortOptions) -> Option<i64>
 impl<O: Measured> RangeUnits<O> for Distances {
     ghost base = { O.Measured.base };
 
-    ghost order = { λ u. u.order_by };
-
-    ghost start = { λ u. u.bounds.start };
-
-    ghost end = { λ u. u.bounds.end };
+    ghost shape = { λ u. record { start = u.bounds.start; end = u.bounds.end; order = u.order_by } };
 
     ghost well = { first_of (Prim.search rules, Prim.grind (arith, Self.row.coded.inj)) };
 

@@ -46,11 +46,7 @@ impl Peers {
 impl<O: Ordered> RangeUnits<O> for Peers {
     ghost base = { 0 };
 
-    ghost order = { λ u. u.order_by };
-
-    ghost start = { λ u. as_bound u.start };
-
-    ghost end = { λ u. as_bound u.end };
+    ghost shape = { λ u. record { start = as_bound u.start; end = as_bound u.end; order = u.order_by } };
 
     ghost well = { first_of (Prim.search rules, Prim.grind (arith, Self.row.coded.inj)) };
 

@@ -4,9 +4,8 @@ ghost use Rattle.std.specs.Prelude.{◌≡◌, Bool, not, if◌then◌else◌, O
 ghost use Rattle.bounds.specs.Bounds.{unbounded};
 ghost use Rattle.frames.specs.Columns.{column};
 ghost use Rattle.bounds.specs.Orders.{at, row_ahead};
-ghost use Rattle.ranges.specs.Ranges.{all_rows, range_closed, range_rule};
+ghost use Rattle.ranges.specs.Ranges.{all_rows, removes_before, removes_behind, rule_of};
 ghost use Rattle.ranges.specs.Scans.{first_from};
-ghost use Rattle.frames.specs.Standard.{end_excludes, start_excludes};
 ghost use Rattle.ranges.specs.RangeFrames.{range_lawful};
 
 use crate::units::RangeUnits;
@@ -48,7 +47,7 @@ fn is_before_start<O: Ordered, U: RangeUnits<O>>(
     here: Option<O>,
     value: Option<O>,
 ) -> bool
-    ensures { result ≡ start_excludes O.Ordered.keyed U.RangeUnits.base (U.RangeUnits.order units.now) (U.RangeUnits.start units.now) here value }
+    ensures { result ≡ removes_before O.Ordered.keyed U.RangeUnits.base (U.RangeUnits.shape units.now) here value }
 {
     match (here, value) {
         (Some(here), Some(value)) => units.is_before_start(here, value),
@@ -58,7 +57,7 @@ fn is_before_start<O: Ordered, U: RangeUnits<O>>(
 
 /// Whether the end removes it.
 fn is_behind_end<O: Ordered, U: RangeUnits<O>>(units: &U, here: Option<O>, value: Option<O>) -> bool
-    ensures { result ≡ end_excludes O.Ordered.keyed U.RangeUnits.base (U.RangeUnits.order units.now) (U.RangeUnits.end units.now) here value }
+    ensures { result ≡ removes_behind O.Ordered.keyed U.RangeUnits.base (U.RangeUnits.shape units.now) here value }
 {
     match (here, value) {
         (Some(here), Some(value)) => units.is_behind_end(here, value),
@@ -73,7 +72,7 @@ fn start_of<O: Ordered, U: RangeUnits<O>>(
     row: usize,
     from: usize,
 ) -> usize
-    ensures { result ≡ (if unbounded (U.RangeUnits.start units.now) then 0 else first_from (start_excludes O.Ordered.keyed U.RangeUnits.base (U.RangeUnits.order units.now) (U.RangeUnits.start units.now) (at (column order.now) row)) from (column order.now)) }
+    ensures { result ≡ (if unbounded (U.RangeUnits.shape units.now).start then 0 else first_from (removes_before O.Ordered.keyed U.RangeUnits.base (U.RangeUnits.shape units.now) (at (column order.now) row)) from (column order.now)) }
 {
     if units.start_bound().is_unbounded() {
         return 0;
@@ -89,7 +88,7 @@ fn end_of<O: Ordered, U: RangeUnits<O>>(
     row: usize,
     from: usize,
 ) -> usize
-    ensures { result ≡ first_from (λ v. not (end_excludes O.Ordered.keyed U.RangeUnits.base (U.RangeUnits.order units.now) (U.RangeUnits.end units.now) (at (column order.now) row) v)) from (column order.now) }
+    ensures { result ≡ first_from (λ v. not (removes_behind O.Ordered.keyed U.RangeUnits.base (U.RangeUnits.shape units.now) (at (column order.now) row) v)) from (column order.now) }
 {
     let here = order.get(row);
     first_from(order, from, |value| !is_behind_end(units, here, value))
@@ -122,11 +121,11 @@ fn takes_all(bound: WindowFrameBound, order_by: Option<SortOptions>) -> bool
 }
 
 impl<O: Ordered, U: RangeUnits<O>> FrameRule<O> for RangeFrame<U> {
-    ghost rule = { λ f. range_rule O.Ordered.keyed U.RangeUnits.base (U.RangeUnits.order f.units) (U.RangeUnits.start f.units) (U.RangeUnits.end f.units) };
+    ghost rule = { λ f. rule_of O.Ordered.keyed U.RangeUnits.base (U.RangeUnits.shape f.units) };
 
     ghost lawful = { λ f.
-        let u = f.units in
-        range_lawful O.Ordered.keyed U.RangeUnits.base (U.RangeUnits.order u) (U.RangeUnits.start u) (U.RangeUnits.end u) (U.RangeUnits.well u) };
+        let s = U.RangeUnits.shape f.units in
+        range_lawful O.Ordered.keyed U.RangeUnits.base s.order s.start s.end (U.RangeUnits.well f.units) };
 
     fn calculate_range(
         &self,
@@ -145,7 +144,7 @@ impl<O: Ordered, U: RangeUnits<O>> FrameRule<O> for RangeFrame<U> {
     }
 
     fn is_end_bound_safe(&self, order: &OrderColumn<O>, newest: Option<O>, row: usize) -> bool
-        ensures { result ≡ range_closed O.Ordered.keyed U.RangeUnits.base (U.RangeUnits.order self.now.units) (U.RangeUnits.end self.now.units) (column order.now) newest row }
+        ensures { result ≡ (rule_of O.Ordered.keyed U.RangeUnits.base (U.RangeUnits.shape self.now.units)).closed (column order.now) newest row }
     {
         match self.units.end_bound() {
             WindowFrameBound::Preceding(1..) => self.units.order_by().is_some(),
