@@ -1,5 +1,6 @@
 use Rattle.std.proofs.Common.{T, rules}
-use lib.Ieee.{binary64, fits}
+use Rattle.std.specs.Float.{binary64}
+use Rattle.std.specs.Float.Ieee.{fits}
 use Rattle.kinds.specs.FloatOrder.{keys_by_less}
 use Rattle.kinds.proofs.float.F64Ordered.key.Goals as goal
 
