@@ -54,6 +54,7 @@ pub(crate) fn better<D: Direction>(best: Option<u64>, key: u64) -> Option<u64>
     Some(best.map_or(key, |old| if D::beats(key, old) { key } else { old }))
 }
 
+// A pair of numbers, since a state has nothing else.
 /// A row in a state: 1 and its key, or 0 and 0 where it is missing.
 pub(crate) fn presence_and_key(row: Option<u64>) -> (u64, u64)
     ensures { result ≡ (one_or_0 row, key_or_0 row) }

@@ -6,6 +6,8 @@ ghost use Rattle.bounds.specs.Bounds.{mirrored};
 
 use crate::bound::WindowFrameBound;
 
+// `Bounds` does not take this in place of a `WindowFrameBound`: a generic struct with facts about its
+// fields derives no `Clone`.
 /// Where a frame starts or ends that goes by the peers of its row.
 #[derive(Clone, Copy, PartialEq, Eq, Debug)]
 pub enum PeerBound {

@@ -4,6 +4,7 @@ ghost use Rattle.std.specs.Prelude.{◌≡◌, length};
 ghost use Rattle.frames.specs.Columns.{column};
 ghost use Rattle.bounds.specs.Orders.{at as value_at, last as last_value};
 
+// Not a `Result`: a partition without order values lacks nothing.
 pub enum OrderColumn<'a, O> {
     Values(&'a [O]),
     /// This many rows, and no order.

@@ -24,6 +24,7 @@ pub trait RangeUnits<O: Ordered>: Copy {
     fn end_bound(&self) -> WindowFrameBound
         ensures { result ≡ (shape self.now).end };
 
+    // Two methods: one for both bounds would be told which by a flag.
     /// Whether `value` sorts before the target of the start, seen from a row with the value `here`.
     fn is_before_start(&self, here: O, value: O) -> bool
         ensures { result ≡ removes_before O.Ordered.keyed base (shape self.now) (Val here) (Val value) };

@@ -20,6 +20,7 @@ pub enum WindowFrameUnits {
     Range,
 }
 
+// An enum, and not a `dyn`: the kinds of frame are these, and a rule is `Copy`.
 /// A frame of ROWS, or of RANGE by peers or by distance.
 #[derive(Clone, Copy)]
 pub enum WindowFrame<R> {

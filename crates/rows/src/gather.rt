@@ -5,6 +5,7 @@ ghost use Rattle.rows.specs.Rows.{kept, non_null};
 
 use crate::arguments::Arguments;
 
+// Not a closure: a function that calls one has to ask that it may be called, and none here asks anything.
 /// A figure that takes one value more.
 pub trait Gather<V> {
     ghost gathered: { Self → V → Self };

@@ -1,24 +1,8 @@
-use Rattle.std.proofs.Common.{◌≡◌, ◌-◌, length, take, sym, ap, ◌∙◌, subst, arith}
+use Rattle.std.proofs.Common.{◌≡◌, ◌-◌, length, take, ap, ◌∙◌, subst, arith}
 use Rattle.std.proofs.lemmas.List.{length-take}
 use Rattle.rows.specs.Rows.{mask_bytes, rows}
-use Rattle.rows.proofs.RowLists.{mask_long, rows_take, rows_all}
+use Rattle.rows.proofs.RowLists.{rows_take, rows_all}
 use Rattle.rows.proofs.arguments.Arguments.new.Goals as goal
-
-pub mask_part-requires : goal.mask_part-requires
-mask_part-requires g c = record { start_le_end = omega arith; end_in_bounds = mask_long c.args.mask (length c.args.values.now) c.min-len.result (omega arith) }
-
-pub invariant_of-result : goal.invariant_of-result
-invariant_of-result g c =
-    let vs = c.args.values.now in
-    let ps = c.args.presence.now in
-    let ms = mask_bytes c.args.mask (length vs) in
-    let n = c.min-len.result in
-    let long : length (take n vs) ≡ n = length-take n vs ∙ omega arith in
-    let wide : length (take n ps) ≡ n = length-take n ps ∙ omega arith in
-    let kept : length (take n ms) ≡ n = length-take n ms ∙ omega arith in
-    let whole : n - 0 ≡ n = omega arith in
-    let cut = subst (λ k. mask_bytes c.mask_part.result k ≡ take k ms) whole (c.mask_part.ensures (length vs) (omega arith)) in
-    (wide ∙ sym long, ap (λ k. length (mask_bytes c.mask_part.result k)) long ∙ ap length cut ∙ kept ∙ sym long)
 
 pub returns : goal.returns
 returns g c =

@@ -1,26 +1,8 @@
 use Rattle.std.proofs.Common.{◌≡◌, ◌-◌, min, length, take, drop, sym, ap, ◌∙◌, arith}
 use Rattle.std.proofs.lemmas.List.{length-take, length-drop}
 use Rattle.rows.specs.Rows.{mask_bytes, rows}
-use Rattle.rows.proofs.RowLists.{mask_long, part_length, rows_length, rows_part, clipped}
+use Rattle.rows.proofs.RowLists.{rows_length, rows_part, clipped}
 use Rattle.rows.proofs.arguments.Arguments.part.Goals as goal
-
-pub mask_part-requires : goal.mask_part-requires
-mask_part-requires g c =
-    let a = c.self.inside in
-    record { start_le_end = omega arith; end_in_bounds = mask_long a.mask (length a.values.now) c.min-end.result (omega (arith, c.self.invariant.1)) }
-
-pub invariant_of-result : goal.invariant_of-result
-invariant_of-result g c =
-    let a = c.self.inside in
-    let vs = a.values.now in
-    let s = c.min-start.result in
-    let n = c.min-end.result - s in
-    let long : length (take n (drop s vs)) ≡ n = simp (length-take, length-drop) (omega arith) in (
-      part_length vs a.presence.now s n c.self.invariant.0,
-      ap (λ k. length (mask_bytes c.mask_part.result k)) long
-          ∙ ap length (c.mask_part.ensures (length vs) (omega arith))
-          ∙ part_length vs (mask_bytes a.mask (length vs)) s n c.self.invariant.1,
-    )
 
 pub returns : goal.returns
 returns g c =
