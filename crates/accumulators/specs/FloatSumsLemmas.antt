@@ -2,7 +2,7 @@
 use Rattle.std.specs.Prelude.{◌≡◌, false, T, List, [], ◌∷◌, ◌++◌, length, pos, fold, Option, refl, Float}
 use Rattle.std.proofs.Common.{sym, ap, ◌∙◌}
 use Rattle.std.specs.Float.{fin, binary64}
-use Rattle.std.specs.Float.Ieee.{add, fits, of_bits}
+use Rattle.std.specs.Float.Ieee.{add, fits}
 use Rattle.std.specs.Float.Ieee.Fits.{add-fits}
 use Rattle.kinds.specs.Keys.{float_key, float_at}
 use Rattle.kinds.specs.FloatKeys.{float_back}
@@ -16,10 +16,6 @@ use Rattle.rows.proofs.Lists.{non_null-append}
 use Rattle.accumulators.specs.Lists.{null_is}
 use Rattle.accumulators.specs.Laws.{lawful_within}
 use Rattle.accumulators.specs.CountsLemmas.{rows_more, present_more}
-
-pub zero_is : of_bits binary64 0 ≡ fin false 0 (pos 0)
-unfolding of_bits
-zero_is = refl
 
 zero_fits : T (fits binary64 (fin false 0 (pos 0)))
 unfolding fits

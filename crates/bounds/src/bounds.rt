@@ -1,9 +1,8 @@
 //! The two bounds of a frame, checked.
 
 ghost use Rattle.std.specs.Prelude.{◌≡◌, false, IfOk};
-ghost use Rattle.std.specs.Result.{result_err};
 ghost use Rattle.bounds.specs.Bounds.{behind, beyond, is_unbounded_following, is_unbounded_preceding, mirrored};
-ghost use Rattle.bounds.specs.Reasons.{bound_reasons, first_reason};
+ghost use Rattle.bounds.specs.Reasons.{bound_reasons, first_reason, reason_of};
 
 use crate::bound::WindowFrameBound;
 use crate::reason::IllMade;
@@ -15,7 +14,7 @@ pub fn check_bounds(
     end: WindowFrameBound,
     most: u64,
 ) -> Result<(), IllMade>
-    ensures { result_err result ≡ first_reason (bound_reasons most start end) }
+    ensures { reason_of result ≡ first_reason (bound_reasons most start end) }
 {
     if start == WindowFrameBound::UnboundedFollowing {
         return Err(IllMade::StartUnboundedFollowing);
@@ -44,7 +43,7 @@ pub struct Bounds {
 
 impl Bounds {
     pub fn new(start: WindowFrameBound, end: WindowFrameBound, most: u64) -> Result<Bounds, IllMade>
-        ensures reason { result_err result ≡ first_reason (bound_reasons most start end) }
+        ensures reason { reason_of result ≡ first_reason (bound_reasons most start end) }
         ensures bounds { IfOk result (λ b. (b.start ≡ start) × (b.end ≡ end)) }
     {
         check_bounds(start, end, most)?;

@@ -1,8 +1,6 @@
 -- What a frame rule is (docs/RULES.md, section 5). Assumes nothing.
 use Rattle.std.specs.Prelude.{ℕ, zero, suc, Bool, not, ◌&&◌, ◌||◌, List, [], ◌∷◌, length, Option, nat_le, nat_lt}
 use Rattle.bounds.specs.declared.sort.SortOptions.{SortOptions}
-use Rattle.bounds.specs.declared.reason.IllMade.{IllMade}
-use Rattle.bounds.specs.declared.reason.IllMade.TheVariants.{PlainMovingStart}
 use Rattle.frames.specs.declared.frame.WindowFrameRange.{WindowFrameRange}
 
 -- A partition P is the list of its rows' order values; rows have none where no order values come.
@@ -39,5 +37,5 @@ abbrev pub inside : WindowFrameRange → ℕ → Bool
 inside f j = nat_le f.start j && nat_lt j f.end
 
 -- a plain expression never lets a row go, so that its frames start at the first row, or have all rows
-abbrev pub plain_reasons : {O : Type 0} → Rule O → List (Bool × IllMade)
-plain_reasons R = (not (R.from_first || R.constant), PlainMovingStart) ∷ []
+abbrev pub plain_reasons : {O : Type 0} → Rule O → List (Bool × ℕ)
+plain_reasons R = (not (R.from_first || R.constant), 6) ∷ []

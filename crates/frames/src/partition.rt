@@ -1,10 +1,9 @@
 //! The frames of a whole partition.
 
 ghost use Rattle.std.specs.Prelude.{◌≡◌, ℕ, ◌<◌, min, ◌++◌, length, drop};
-ghost use Rattle.std.specs.Result.{result_err};
 ghost use Rattle.frames.specs.Columns.{column};
 ghost use Rattle.frames.specs.Partitions.{Told, row_frames};
-ghost use Rattle.bounds.specs.Reasons.{first_reason};
+ghost use Rattle.bounds.specs.Reasons.{first_reason, reason_of};
 ghost use Rattle.frames.specs.Rules.{plain_reasons, waits};
 
 use crate::frame::{RowFrame, WindowFrameRange};
@@ -15,7 +14,7 @@ use kinds::ordered::Ordered;
 
 /// Refuses a rule that a plain expression cannot have: it never lets a row go.
 pub fn check_plain<O: Ordered, R: FrameRule<O>>(rule: &R) -> Result<(), IllMade>
-    ensures { result_err result ≡ first_reason (plain_reasons (R.FrameRule.rule rule.now)) }
+    ensures { reason_of result ≡ first_reason (plain_reasons (R.FrameRule.rule rule.now)) }
 {
     if rule.is_ever_expanding() || rule.is_constant() {
         Ok(())

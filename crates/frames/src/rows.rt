@@ -1,9 +1,8 @@
 //! Frames counted in rows.
 
 ghost use Rattle.std.specs.Prelude.{◌≡◌, ◌^◌, ◌≤◌, IfOk};
-ghost use Rattle.std.specs.Result.{result_err};
 ghost use Rattle.frames.specs.Columns.{column};
-ghost use Rattle.bounds.specs.Reasons.{first_reason, bound_reasons};
+ghost use Rattle.bounds.specs.Reasons.{bound_reasons, first_reason, reason_of};
 ghost use Rattle.frames.specs.Rows.{rows_rule, rows_to, rows_causal};
 ghost use Rattle.frames.specs.RowFrames.{rows_lawful};
 
@@ -32,7 +31,7 @@ impl RowsFrame {
         end: WindowFrameBound,
         order_by: Option<SortOptions>,
     ) -> Result<RowsFrame, IllMade>
-        ensures reason { result_err result ≡ first_reason (bound_reasons 4096 start end) }
+        ensures reason { reason_of result ≡ first_reason (bound_reasons 4096 start end) }
         ensures frame { IfOk result (λ f. (f.bounds.start ≡ start) × (f.bounds.end ≡ end) × (f.order_by ≡ order_by)) }
     {
         let bounds = Bounds::new(start, end, MOST_ROWS)?;

@@ -1,9 +1,8 @@
 //! RANGE by distance, for measured kinds.
 
 ghost use Rattle.std.specs.Prelude.{◌≡◌, ◌^◌, false, not, ◌&&◌, ◌||◌, ◌++◌, pos, negsuc, ◌+ℤ◌, ◌-ℤ◌, ◌≤ℤ◌, ◌<ℤ◌, is_some, IfOk, if◌then◌else◌, Some as Val};
-ghost use Rattle.std.specs.Result.{result_err};
 ghost use Rattle.bounds.specs.Bounds.{beyond, distant, offset};
-ghost use Rattle.bounds.specs.Reasons.{bound_reasons, first_reason, order_reasons};
+ghost use Rattle.bounds.specs.Reasons.{bound_reasons, first_reason, order_reasons, reason_of};
 ghost use Rattle.frames.specs.Standard.{moved};
 ghost use Rattle.std.proofs.Common.{rules, arith};
 
@@ -33,7 +32,7 @@ impl Distances {
         end: WindowFrameBound,
         order_by: Option<SortOptions>,
     ) -> Result<Distances, IllMade>
-        ensures reason { result_err result ≡ first_reason (bound_reasons 2147483647 start end ++ order_reasons order_by start end) }
+        ensures reason { reason_of result ≡ first_reason (bound_reasons 2147483647 start end ++ order_reasons order_by start end) }
         ensures frame { IfOk result (λ f. (f.bounds.start ≡ start) × (f.bounds.end ≡ end) × (f.order_by ≡ order_by)) }
     {
         let bounds = Bounds::new(start, end, MOST_DISTANCE)?;

@@ -1,10 +1,9 @@
 //! RANGE by peers, for every ordered kind: CURRENT ROW and UNBOUNDED.
 
 ghost use Rattle.std.specs.Prelude.{◌≡◌, false, IfOk};
-ghost use Rattle.std.specs.Result.{result_err};
 ghost use Rattle.bounds.specs.Bounds.{is_unbounded_following, is_unbounded_preceding};
 ghost use Rattle.bounds.specs.PeerBounds.{as_bound};
-ghost use Rattle.bounds.specs.Reasons.{bound_reasons, first_reason};
+ghost use Rattle.bounds.specs.Reasons.{bound_reasons, first_reason, reason_of};
 ghost use Rattle.std.proofs.Common.{rules, arith};
 
 use crate::units::RangeUnits;
@@ -31,7 +30,7 @@ impl Peers {
         end: PeerBound,
         order_by: Option<SortOptions>,
     ) -> Result<Peers, IllMade>
-        ensures reason { result_err result ≡ first_reason (bound_reasons 0 (as_bound start) (as_bound end)) }
+        ensures reason { reason_of result ≡ first_reason (bound_reasons 0 (as_bound start) (as_bound end)) }
         ensures frame { IfOk result (λ f. (f.start ≡ start) × (f.end ≡ end) × (f.order_by ≡ order_by)) }
     {
         check_bounds(start.into(), end.into(), 0)?;

@@ -1,7 +1,7 @@
 -- Lists of rows, column by column. Assumes nothing.
 use Rattle.std.proofs.Common.{◌≡◌, ℕ, zero, suc, ◌+◌, ◌-◌, ◌<◌, ◌≤◌, min, Bool, true, false, cond, not, eqb, List, [], ◌∷◌, length, get_or, take, drop, replicate, Some, None, Option, sym, refl, ap, ◌∙◌, subst, inl, inr, le_trans, arith, Bor, eq-eqb, ne_eqb}
 use Rattle.std.proofs.lemmas.Bool.{cases_lt}
-use Rattle.std.proofs.lemmas.List.{take-replicate, drop-replicate, drop-take, drop_all, take_all, length-take, length-drop, length-replicate}
+use Rattle.std.proofs.lemmas.List.{take-replicate, drop-replicate, drop-take, drop_all, take_all, length-take}
 use Rattle.rows.specs.Rows.{Row, rows, optional, mask_bytes, kept}
 use Rattle.rows.specs.Columns.{rows_of, Aligned}
 use Rattle.rows.specs.declared.arguments.Arguments.TheInside.{Inside}
@@ -59,16 +59,8 @@ rows_drop (suc n) (v ∷ vs) (p ∷ ps) (m ∷ ms) = rows_drop n vs ps ms
 pub rows_part : {V : Type 0} (n i : ℕ) (vs : List V) (ps ms : List ℕ) → rows (take n (drop i vs)) (take n (drop i ps)) (take n (drop i ms)) ≡ take n (drop i (rows vs ps ms))
 rows_part n i vs ps ms = rows_take n (drop i vs) (drop i ps) (drop i ms) ∙ ap (take n) (rows_drop i vs ps ms)
 
-pub mask_long : (m : Option (Bor (List ℕ))) (L e : ℕ) → e ≤ length (mask_bytes m L) → e ≤ length (mask_bytes m e)
-mask_long None L e h = omega (arith, length-replicate {A = ℕ} e 1)
-mask_long (Some b) L e h = h
-
 pub no_mask_part : (s e n : ℕ) → s ≤ e → e ≤ n → replicate {A = ℕ} (e - s) 1 ≡ take (e - s) (drop s (replicate n 1))
 no_mask_part s e n h l = sym (ap (take (e - s)) (drop-replicate s n 1) ∙ take-replicate (e - s) (n - s) 1 (omega arith))
-
--- a part of arguments that are aligned is aligned
-pub part_length : {A B : Type 0} (xs : List A) (ys : List B) (s n : ℕ) → length ys ≡ length xs → length (take n (drop s ys)) ≡ length (take n (drop s xs))
-part_length xs ys s n h = simp (length-take, length-drop) (ap (λ k. min n (k - s)) h)
 
 take_clipped : {A : Type 0} (xs : List A) (n : ℕ) → take (min n (length xs)) xs ≡ take n xs
 take_clipped xs n = elim (cases_lt n (length xs)) [

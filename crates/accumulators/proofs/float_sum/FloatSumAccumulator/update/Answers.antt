@@ -8,9 +8,6 @@ use Rattle.accumulators.specs.Sql.{float_total}
 use Rattle.accumulators.specs.FloatSumsLemmas.{gathered_total, total_fits}
 use Rattle.accumulators.proofs.float_sum.FloatSumAccumulator.update.Goals as goal
 
-pub invariant_of-self-clause-fewer : goal.invariant_of-self-clause-fewer
-invariant_of-self-clause-fewer c = let room = c.in_ok-with.ensures in omega (arith, room.0, room.1, room.2, c.gather-batch.ensures.fewer, c.args.self.now.fewer)
-
 pub invariant_of-self-clause-fits : goal.invariant_of-self-clause-fits
 invariant_of-self-clause-fits c =
     let a = c.args.self.now in

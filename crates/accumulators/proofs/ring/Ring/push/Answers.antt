@@ -2,11 +2,6 @@ use Rattle.std.proofs.Common.{◌≡◌, ◌<◌, [], ◌∷◌, ◌++◌, lengt
 use Rattle.accumulators.proofs.Rings.{ring_push, ring_length}
 use Rattle.accumulators.proofs.ring.Ring.push.Goals as goal
 
-pub invariant_of-self : goal.invariant_of-self
-invariant_of-self c =
-    let r = c.self.inside in
-    (c.self.invariant.0, omega (arith, ring_length r.places r.first r.held, ap length c.self.view_is, c.requires))
-
 pub returns : goal.returns
 returns c =
     let r = c.self.inside in

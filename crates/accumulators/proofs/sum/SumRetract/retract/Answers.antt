@@ -1,13 +1,7 @@
-use Rattle.std.proofs.Common.{◌-◌, ◌<◌, ◌≤◌, [], ◌∷◌, length, ap, ◌∙◌, arith, w64, SFits, rules, le-ltb, lt-ltb}
+use Rattle.std.proofs.Common.{◌-◌, ◌≤◌, [], ◌∷◌, length, ap, ◌∙◌, arith, w64, SFits, rules, le-ltb}
 use Rattle.rows.specs.Rows.{kept, non_null}
-use Rattle.accumulators.specs.SumsLemmas.{bits_0, total_taken}
+use Rattle.accumulators.specs.SumsLemmas.{total_taken}
 use Rattle.accumulators.proofs.sum.SumRetract.retract.Goals as goal
-
-pub returns-in-None : goal.returns-in-None
-returns-in-None c =
-    let xs = kept c.args.rows.now in
-    let more : c.args.self.now.held.rows < length xs = omega (arith, c.gather-batch.ensures.rows, c.in-None.ensures) in
-    rw (lt-ltb c.args.self.now.held.rows (length xs) more) (c.new.ensures ∙ ap (λ z. 0 ∷ 0 ∷ z ∷ []) bits_0)
 
 pub returns-in-Some : goal.returns-in-Some
 returns-in-Some c =
