@@ -1,6 +1,6 @@
 //! Bounds of a frame, as SQL writes them.
 
-ghost use Rattle.std.specs.Prelude.{◌≡◌};
+ghost use Rattle.std.specs.Prelude.{◌≡◌, ◌^◌, pos, neg_ℤ, ◌<ℤ◌, IfSome};
 ghost use Rattle.bounds.specs.Bounds.{mirrored, offset, behind, beyond, distant, unbounded};
 
 /// Where a frame starts or ends, seen from its row.
@@ -58,8 +58,9 @@ impl WindowFrameBound {
     }
 
     /// How far behind its row the bound lies; before it, where this is negative.
-    fn offset(self) -> Option<i128>
-        ensures { result ≡ offset self }
+    pub fn offset(self) -> Option<i128>
+        ensures value { result ≡ offset self }
+        ensures near { IfSome result (λ by. (neg_ℤ (pos (2 ^ 64)) <ℤ by) × (by <ℤ pos (2 ^ 64))) }
     {
         match self {
             WindowFrameBound::Preceding(n) => Some(-i128::from(n)),

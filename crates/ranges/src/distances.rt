@@ -43,34 +43,17 @@ impl Distances {
     }
 }
 
-/// A place moved along the order.
-fn shifted(place: i64, by: i64, sort: SortOptions) -> i64
-    requires place_low { negsuc (2147483647) ≤ℤ place }
-    requires place_high { place <ℤ pos (2 ^ 32) }
-    requires by_low { negsuc (2147483647) ≤ℤ by }
-    requires by_high { by <ℤ pos (2 ^ 31) }
-    ensures { result ≡ (if sort.descending then place -ℤ by else place +ℤ by) }
+/// The place that a bound leads to from `place`; it may lie outside the kind.
+fn target(bound: WindowFrameBound, place: i64, sort: SortOptions) -> Option<i128>
+    ensures { result ≡ moved (Val sort) (offset bound) (Val place) }
 {
-    if sort.descending {
+    let by = bound.offset()?;
+    let place = i128::from(place);
+    Some(if sort.descending {
         place - by
     } else {
         place + by
-    }
-}
-
-/// The place that a bound leads to from `place`; it may lie outside the kind.
-fn target(bound: WindowFrameBound, place: i64, sort: SortOptions) -> Option<i64>
-    requires near { beyond 2147483647 bound ≡ false }
-    requires place_low { negsuc (2147483647) ≤ℤ place }
-    requires place_high { place <ℤ pos (2 ^ 32) }
-    ensures { result ≡ moved (Val sort) (offset bound) (Val place) }
-{
-    match bound {
-        WindowFrameBound::Preceding(d) => Some(shifted(place, -(d as i64), sort)),
-        WindowFrameBound::CurrentRow => Some(shifted(place, 0, sort)),
-        WindowFrameBound::Following(d) => Some(shifted(place, d as i64, sort)),
-        _ => None,
-    }
+    })
 }
 
 impl<O: Measured> RangeUnits<O> for Distances {
@@ -97,7 +80,7 @@ impl<O: Measured> RangeUnits<O> for Distances {
             return false;
         };
         match target(self.bounds.start, here.place(), sort) {
-            Some(at) => sort.is_before(value.place().into(), at.into()),
+            Some(at) => sort.is_before(value.place().into(), at),
             None => false,
         }
     }
@@ -107,7 +90,7 @@ impl<O: Measured> RangeUnits<O> for Distances {
             return false;
         };
         match target(self.bounds.end, here.place(), sort) {
-            Some(at) => sort.is_before(at.into(), value.place().into()),
+            Some(at) => sort.is_before(at, value.place().into()),
             None => false,
         }
     }
