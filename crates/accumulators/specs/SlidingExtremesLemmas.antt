@@ -3,6 +3,7 @@ use Rattle.std.specs.Prelude.{◌≡◌, ℕ, zero, suc, ◌*◌, Bool, List, []
 use Rattle.std.proofs.Math.Path.{sym, ap}
 use Rattle.std.proofs.Common.{◌∙◌, arith, lt-ltb}
 use Rattle.std.specs.Option.{option_map}
+use Rattle.std.proofs.Math.Seq.{drop-append_seam}
 use Rattle.std.proofs.lemmas.List.{map-append, length-map}
 use Rattle.rows.specs.Rows.{non_null}
 use Rattle.accumulators.specs.Figures.{Lawful, Retracting, Within, rows_held}
@@ -38,10 +39,6 @@ non_null_map f [] = refl
 non_null_map f (None ∷ xs) = non_null_map f xs
 non_null_map f (Some v ∷ xs) = ap (λ z. f v ∷ z) (non_null_map f xs)
 
-drop_front : {A : Type 0} (xs ys : List A) → drop (length xs) (xs ++ ys) ≡ ys
-drop_front [] ys = refl
-drop_front (x ∷ xs) ys = drop_front xs ys
-
 -- ---- the laws
 module _ {V : Type 0} (greatest : Bool) (keyed : V → ℕ) (valued : ℕ → V) where
   keys : List (Option V) → List (Option ℕ)
@@ -63,7 +60,7 @@ module _ {V : Type 0} (greatest : Bool) (keyed : V → ℕ) (valued : ℕ → V)
       pairs_drop (length xs) (keys (xs ++ ys))
       ∙ ap (λ ks. pairs (drop (length xs) ks)) (map-append (option_map keyed) xs ys)
       ∙ ap (λ n. pairs (drop n (keys xs ++ keys ys))) (sym (length-map xs (option_map keyed)))
-      ∙ ap pairs (drop_front (keys xs) (keys ys))
+      ∙ ap pairs (drop-append_seam (keys xs) (keys ys))
 
   pub sliding_retracting : Retracting (sliding_extreme greatest keyed valued) (Within (sliding_extreme greatest keyed valued)) oldest_dropped
   unfolding keys
