@@ -1,7 +1,6 @@
 -- Lists of rows, column by column. Assumes nothing.
-use Rattle.std.proofs.Common.{◌≡◌, ℕ, zero, suc, ◌+◌, ◌-◌, ◌<◌, ◌≤◌, min, Bool, true, false, cond, not, eqb, List, [], ◌∷◌, length, get_or, take, drop, replicate, Some, None, Option, sym, refl, ap, ◌∙◌, subst, inl, inr, le_trans, arith, Bor, eq-eqb, ne_eqb}
-use Rattle.std.proofs.lemmas.Bool.{cases_lt}
-use Rattle.std.proofs.lemmas.List.{take-replicate, drop-replicate, drop-take, drop_all, take_all, length-take}
+use Rattle.std.proofs.Common.{◌≡◌, ℕ, zero, suc, ◌+◌, ◌-◌, ◌<◌, ◌≤◌, min, Bool, true, false, cond, not, eqb, List, [], ◌∷◌, length, get_or, take, drop, replicate, Some, None, Option, sym, refl, ap, ◌∙◌, subst, le_trans, arith, Bor, eq-eqb, ne_eqb}
+use Rattle.std.proofs.lemmas.List.{take_min, drop_min, get_or-replicate, take-replicate, drop-replicate, drop-take, drop_all, take_all, length-take}
 use Rattle.rows.specs.Rows.{Row, rows, optional, mask_bytes, kept}
 use Rattle.rows.specs.Columns.{rows_of, Aligned}
 use Rattle.rows.specs.declared.arguments.Arguments.TheInside.{Inside}
@@ -62,30 +61,16 @@ rows_part n i vs ps ms = rows_take n (drop i vs) (drop i ps) (drop i ms) ∙ ap 
 pub no_mask_part : (s e n : ℕ) → s ≤ e → e ≤ n → replicate {A = ℕ} (e - s) 1 ≡ take (e - s) (drop s (replicate n 1))
 no_mask_part s e n h l = sym (ap (take (e - s)) (drop-replicate s n 1) ∙ take-replicate (e - s) (n - s) 1 (omega arith))
 
-take_clipped : {A : Type 0} (xs : List A) (n : ℕ) → take (min n (length xs)) xs ≡ take n xs
-take_clipped xs n = elim (cases_lt n (length xs)) [
-  | inl h ↦ ap (λ k. take k xs) (omega arith)
-  | inr h ↦ ap (λ k. take k xs) (omega arith) ∙ take_all (length xs) xs (omega arith) ∙ sym (take_all n xs h)
-]
-
-drop_clipped : {A : Type 0} (ys : List A) (n m : ℕ) → length ys ≡ m → drop (min n m) ys ≡ drop n ys
-drop_clipped ys n m l = elim (cases_lt n m) [
-  | inl h ↦ ap (λ k. drop k ys) (omega arith)
-  | inr h ↦ drop_all (min n m) ys (omega arith) ∙ sym (drop_all n ys (omega arith))
-]
-
 -- from start on and before end, as many as there are
 pub clipped : {A : Type 0} (xs : List A) (start end e s : ℕ) → e ≡ min end (length xs) → s ≡ min start e → take (e - s) (drop s xs) ≡ drop start (take end xs)
 clipped xs start end e s ee es =
     let whole : s + (e - s) ≡ e = omega arith in
-    sym (drop-take s (e - s) xs) ∙ ap (λ k. drop s (take k xs)) (whole ∙ ee) ∙ ap (drop s) (take_clipped xs end)
-    ∙ ap (λ k. drop k (take end xs)) (es ∙ ap (min start) ee) ∙ drop_clipped (take end xs) start (min end (length xs)) (length-take end xs)
+    sym (drop-take s (e - s) xs) ∙ ap (λ k. drop s (take k xs)) (whole ∙ ee) ∙ ap (drop s) (take_min end xs)
+    ∙ ap (λ k. drop k (take end xs)) (es ∙ ap (min start) (ee ∙ sym (length-take end xs))) ∙ drop_min start (take end xs)
 
 -- every byte of a mask that is not there is 1
 pub ones_at : (n i : ℕ) → i < n → ◌≡◌ {A = ℕ} (get_or (replicate n 1) i 0) 0 → ⊥
-ones_at zero i h e = omega arith
-ones_at (suc n) zero h e = omega arith
-ones_at (suc n) (suc i) h e = ones_at n i (omega arith) e
+ones_at n i h e = omega (arith, get_or-replicate {A = ℕ} n i 1 0 h)
 
 -- a row that the mask keeps puts its argument into the batch, and any other nothing
 module _ {V : Type 0} (a : Inside V) (one : Aligned a) (i : ℕ) (h : i < length a.values.now) where
