@@ -1,3 +1,3 @@
 pub mod Rings
 pub mod Aggregates
-pub mod Kept
+pub mod States

@@ -43,19 +43,6 @@ impl Distances {
     }
 }
 
-/// The place that a bound leads to from `place`; it may lie outside the kind.
-fn target(bound: WindowFrameBound, place: i64, sort: SortOptions) -> Option<i128>
-    ensures { result ≡ moved (Val sort) (offset bound) (Val place) }
-{
-    let by = bound.offset()?;
-    let place = i128::from(place);
-    Some(if sort.descending {
-        place - by
-    } else {
-        place + by
-    })
-}
-
 impl<O: Measured> RangeUnits<O> for Distances {
     ghost base = { O.Measured.base };
 
@@ -75,23 +62,7 @@ impl<O: Measured> RangeUnits<O> for Distances {
         self.bounds.end
     }
 
-    fn is_before_start(&self, here: O, value: O) -> bool {
-        let Some(sort) = self.order_by else {
-            return false;
-        };
-        match target(self.bounds.start, here.place(), sort) {
-            Some(at) => sort.is_before(value.place().into(), at),
-            None => false,
-        }
-    }
-
-    fn is_behind_end(&self, here: O, value: O) -> bool {
-        let Some(sort) = self.order_by else {
-            return false;
-        };
-        match target(self.bounds.end, here.place(), sort) {
-            Some(at) => sort.is_before(at, value.place().into()),
-            None => false,
-        }
+    fn place(&self, value: O) -> i128 {
+        value.place().into()
     }
 }

@@ -61,23 +61,7 @@ impl<O: Ordered> RangeUnits<O> for Peers {
         self.end.into()
     }
 
-    fn is_before_start(&self, here: O, value: O) -> bool {
-        match (self.order_by, self.start) {
-            (Some(sort), PeerBound::CurrentRow) => sort.is_before(
-                value.key().into(),
-                here.key().into(),
-            ),
-            _ => false,
-        }
-    }
-
-    fn is_behind_end(&self, here: O, value: O) -> bool {
-        match (self.order_by, self.end) {
-            (Some(sort), PeerBound::CurrentRow) => sort.is_before(
-                here.key().into(),
-                value.key().into(),
-            ),
-            _ => false,
-        }
+    fn place(&self, value: O) -> i128 {
+        value.key().into()
     }
 }

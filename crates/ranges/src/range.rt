@@ -42,7 +42,7 @@ fn first_from<O: Copy, F: Fn(Option<O>) -> bool>(
 }
 
 /// Whether the start removes a row with the order value `value`, seen from a row with `here`.
-fn is_before_start<O: Ordered, U: RangeUnits<O>>(
+fn is_removed_before<O: Ordered, U: RangeUnits<O>>(
     units: &U,
     here: Option<O>,
     value: Option<O>,
@@ -56,7 +56,11 @@ fn is_before_start<O: Ordered, U: RangeUnits<O>>(
 }
 
 /// Whether the end removes it.
-fn is_behind_end<O: Ordered, U: RangeUnits<O>>(units: &U, here: Option<O>, value: Option<O>) -> bool
+fn is_removed_behind<O: Ordered, U: RangeUnits<O>>(
+    units: &U,
+    here: Option<O>,
+    value: Option<O>,
+) -> bool
     ensures { result ≡ removes_behind O.Ordered.keyed U.RangeUnits.base (U.RangeUnits.shape units.now) here value }
 {
     match (here, value) {
@@ -78,7 +82,7 @@ fn start_of<O: Ordered, U: RangeUnits<O>>(
         return 0;
     }
     let here = order.get(row);
-    first_from(order, from, |value| is_before_start(units, here, value))
+    first_from(order, from, |value| is_removed_before(units, here, value))
 }
 
 /// Where it ends.
@@ -91,7 +95,7 @@ fn end_of<O: Ordered, U: RangeUnits<O>>(
     ensures { result ≡ first_from (λ v. not (removes_behind O.Ordered.keyed U.RangeUnits.base (U.RangeUnits.shape units.now) (at (column order.now) row) v)) from (column order.now) }
 {
     let here = order.get(row);
-    first_from(order, from, |value| !is_behind_end(units, here, value))
+    first_from(order, from, |value| !is_removed_behind(units, here, value))
 }
 
 /// Whether a most recent row is shown and sorts strictly behind the last row.
@@ -153,7 +157,10 @@ impl<O: Ordered, U: RangeUnits<O>> FrameRule<O> for RangeFrame<U> {
                 newest,
                 self.units.order_by(),
             ),
-            WindowFrameBound::Following(_) => is_behind_end(&self.units, order.get(row), newest),
+            WindowFrameBound::Following(_) => {
+                let here = order.get(row);
+                is_removed_behind(&self.units, here, newest)
+            }
             WindowFrameBound::UnboundedPreceding | WindowFrameBound::UnboundedFollowing => false,
         }
     }

@@ -1,12 +1,37 @@
 //! What the bounds of a RANGE frame mean: peers for every ordered kind, distances for measured ones.
 
-ghost use Rattle.std.specs.Prelude.{◌≡◌, ℕ, Some as Val};
+ghost use Rattle.std.specs.Prelude.{◌≡◌, ℕ, ◌^◌, pos, neg_ℤ, ◌<ℤ◌, MatchOption, Some as Val, None as Missing};
+ghost use Rattle.std.proofs.Math.IntN.{sub_ℕ};
+ghost use Rattle.bounds.specs.Bounds.{offset};
+ghost use Rattle.frames.specs.Standard.{moved};
 ghost use Rattle.frames.specs.Mirrors.{Shape};
 ghost use Rattle.ranges.specs.Ranges.{WellMade, removes_before, removes_behind};
 
 use bounds::bound::WindowFrameBound;
 use bounds::sort::SortOptions;
 use kinds::ordered::Ordered;
+
+/// The place that a bound leads to from `place`, in the order of the rows; it may lie outside the kind.
+fn target(
+    order_by: Option<SortOptions>,
+    bound: WindowFrameBound,
+    place: i128,
+) -> Option<(SortOptions, i128)>
+    requires low { neg_ℤ (pos (2 ^ 64)) <ℤ place }
+    requires high { place <ℤ pos (2 ^ 64) }
+    ensures { MatchOption result (moved order_by (offset bound) (Val place) ≡ Missing) (λ t. (order_by ≡ Val t.0) × (moved order_by (offset bound) (Val place) ≡ Val t.1)) }
+{
+    let sort = order_by?;
+    let by = bound.offset()?;
+    Some((
+        sort,
+        if sort.descending {
+            place - by
+        } else {
+            place + by
+        },
+    ))
+}
 
 /// Two bounds of RANGE, and how they are held against the rows.
 pub trait RangeUnits<O: Ordered>: Copy {
@@ -24,14 +49,31 @@ pub trait RangeUnits<O: Ordered>: Copy {
     fn end_bound(&self) -> WindowFrameBound
         ensures { result ≡ (shape self.now).end };
 
-    // Two methods: one for both bounds would be told which by a flag.
+    /// The place of an order value.
+    fn place(&self, value: O) -> i128
+        ensures value { result ≡ sub_ℕ (O.Ordered.keyed value) base }
+        ensures low { neg_ℤ (pos (2 ^ 64)) <ℤ result }
+        ensures high { result <ℤ pos (2 ^ 64) };
+
     /// Whether `value` sorts before the target of the start, seen from a row with the value `here`.
     fn is_before_start(&self, here: O, value: O) -> bool
-        ensures { result ≡ removes_before O.Ordered.keyed base (shape self.now) (Val here) (Val value) };
+        ensures { result ≡ removes_before O.Ordered.keyed base (shape self.now) (Val here) (Val value) }
+    {
+        match target(self.order_by(), self.start_bound(), self.place(here)) {
+            Some((sort, at)) => sort.is_before(self.place(value), at),
+            None => false,
+        }
+    }
 
     /// Whether `value` sorts behind the target of the end.
     fn is_behind_end(&self, here: O, value: O) -> bool
-        ensures { result ≡ removes_behind O.Ordered.keyed base (shape self.now) (Val here) (Val value) };
+        ensures { result ≡ removes_behind O.Ordered.keyed base (shape self.now) (Val here) (Val value) }
+    {
+        match target(self.order_by(), self.end_bound(), self.place(here)) {
+            Some((sort, at)) => sort.is_before(at, self.place(value)),
+            None => false,
+        }
+    }
 
     ghost well: { (u : Self) → WellMade (shape u) };
 }

@@ -1,7 +1,7 @@
 use Rattle.std.proofs.Common.{◌≡◌, ◌+◌, ◌*◌, ◌<◌, ◌≤◌, ◌∷◌, suc, length, drop, set, sym, ap, ◌∙◌, add-one, arith, length-set}
 use Rattle.std.proofs.lemmas.List.{drop-drop}
 use Rattle.accumulators.specs.SlidingExtremesLemmas.{pairs_length}
-use Rattle.accumulators.proofs.Kept.{written_more}
+use Rattle.accumulators.proofs.States.{written_more}
 use Rattle.accumulators.proofs.sliding_extreme.SlidingExtremeAccumulator.state.Goals as goal
 
 pub put_pair-requires : goal.put_pair-requires

@@ -1,5 +1,5 @@
 use Rattle.std.proofs.Common.{◌≡◌, ◌+◌, length, drop}
-use Rattle.accumulators.proofs.Kept.{Written}
+use Rattle.accumulators.proofs.States.{Written}
 use Rattle.accumulators.proofs.sliding_extreme.SlidingExtremeAccumulator.state.Given as goal
 
 abbrev pub invariant-loop-i : goal.invariant-loop-i

@@ -1,5 +1,5 @@
 use Rattle.rows.specs.Rows.{kept}
-use Rattle.accumulators.proofs.Kept.{dropped}
+use Rattle.accumulators.proofs.States.{dropped}
 use Rattle.accumulators.proofs.sliding_extreme.SlidingExtremeRetract.retract.Goals as goal
 
 pub returns : goal.returns

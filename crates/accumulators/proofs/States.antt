@@ -1,4 +1,4 @@
--- The calls of the sliding extremes, on the rows held. Assumes nothing.
+-- What the sliding extremes write of the rows that they hold, and what is left of them. Assumes nothing.
 use Rattle.std.specs.Prelude.{◌≡◌, ℕ, suc, ◌+◌, ◌-◌, ◌*◌, ◌<◌, ◌≤◌, List, [], ◌∷◌, ◌++◌, length, take, drop, Option, slice_set}
 use Rattle.std.proofs.Math.Path.{sym, ap}
 use Rattle.std.proofs.Common.{get_or, ◌∙◌, append_assoc, inl, inr, arith, lt-ltb, le-ltb, length-append}
