@@ -15,6 +15,7 @@ use crate::state::write_numbers;
 use rows::arguments::Arguments;
 use rows::gather::Gather;
 
+// A struct for each figure, and not one over a step: the step would be an interface beside the struct.
 /// A total modulo 2^64.
 #[derive(Clone, Copy)]
 struct Total {

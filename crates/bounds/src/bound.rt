@@ -74,9 +74,8 @@ impl WindowFrameBound {
     pub fn is_behind(self, end: WindowFrameBound) -> bool
         ensures { result ≡ behind self end }
     {
-        match (self.offset(), end.offset()) {
-            (Some(from), Some(to)) => to < from,
-            _ => false,
-        }
+        self.offset()
+            .zip(end.offset())
+            .is_some_and(|(from, to)| to < from)
     }
 }

@@ -6,8 +6,8 @@ ghost use Rattle.bounds.specs.Bounds.{mirrored};
 
 use crate::bound::WindowFrameBound;
 
-// `Bounds` does not take this in place of a `WindowFrameBound`: a generic struct with facts about its
-// fields derives no `Clone`.
+// `Bounds` is not generic over this and `WindowFrameBound`: that takes an interface of bounds, and `Clone`
+// by hand, for two bounds that are made in one place.
 /// Where a frame starts or ends that goes by the peers of its row.
 #[derive(Clone, Copy, PartialEq, Eq, Debug)]
 pub enum PeerBound {

@@ -4,7 +4,8 @@ ghost use Rattle.std.specs.Prelude.{◌≡◌, length};
 ghost use Rattle.frames.specs.Columns.{column};
 ghost use Rattle.bounds.specs.Orders.{at as value_at, last as last_value};
 
-// Not a `Result`: a partition without order values lacks nothing.
+// Not a `Result`, since a partition without order values lacks nothing; and not a struct that clauses see
+// as its rows, since it would keep a length beside the values.
 pub enum OrderColumn<'a, O> {
     Values(&'a [O]),
     /// This many rows, and no order.

@@ -27,6 +27,7 @@ pub fn reverse_order(order_by: Option<SortOptions>) -> Option<SortOptions>
     order_by.map(SortOptions::reverse)
 }
 
+// Alike in each kind of frame; a struct below them would carry the facts of each.
 impl Reverse for RowsFrame {
     ghost shape = { λ f. record { start = f.bounds.start; end = f.bounds.end; order = f.order_by } };
 

@@ -49,10 +49,8 @@ fn is_removed_before<O: Ordered, U: RangeUnits<O>>(
 ) -> bool
     ensures { result ≡ removes_before O.Ordered.keyed U.RangeUnits.base (U.RangeUnits.shape units.now) here value }
 {
-    match (here, value) {
-        (Some(here), Some(value)) => units.is_before_start(here, value),
-        _ => false,
-    }
+    here.zip(value)
+        .is_some_and(|(here, value)| units.is_before_start(here, value))
 }
 
 /// Whether the end removes it.
@@ -63,10 +61,8 @@ fn is_removed_behind<O: Ordered, U: RangeUnits<O>>(
 ) -> bool
     ensures { result ≡ removes_behind O.Ordered.keyed U.RangeUnits.base (U.RangeUnits.shape units.now) here value }
 {
-    match (here, value) {
-        (Some(here), Some(value)) => units.is_behind_end(here, value),
-        _ => false,
-    }
+    here.zip(value)
+        .is_some_and(|(here, value)| units.is_behind_end(here, value))
 }
 
 /// Where the frame of a row starts; the search goes on from `from`.

@@ -59,20 +59,16 @@ pub trait RangeUnits<O: Ordered>: Copy {
     fn is_before_start(&self, here: O, value: O) -> bool
         ensures { result ≡ removes_before O.Ordered.keyed base (shape self.now) (Val here) (Val value) }
     {
-        match target(self.order_by(), self.start_bound(), self.place(here)) {
-            Some((sort, at)) => sort.is_before(self.place(value), at),
-            None => false,
-        }
+        let target = target(self.order_by(), self.start_bound(), self.place(here));
+        target.is_some_and(|(sort, at)| sort.is_before(self.place(value), at))
     }
 
     /// Whether `value` sorts behind the target of the end.
     fn is_behind_end(&self, here: O, value: O) -> bool
         ensures { result ≡ removes_behind O.Ordered.keyed base (shape self.now) (Val here) (Val value) }
     {
-        match target(self.order_by(), self.end_bound(), self.place(here)) {
-            Some((sort, at)) => sort.is_before(at, self.place(value)),
-            None => false,
-        }
+        let target = target(self.order_by(), self.end_bound(), self.place(here));
+        target.is_some_and(|(sort, at)| sort.is_before(at, self.place(value)))
     }
 
     ghost well: { (u : Self) → WellMade (shape u) };
