@@ -1,6 +1,6 @@
-//! What accumulators count that do not keep their rows.
+//! How many rows a count or a sum holds, and how many of them have a value.
 
-ghost use Rattle.std.specs.Prelude.{◌≡◌, ℕ, ◌≤◌};
+ghost use Rattle.std.specs.Prelude.{◌≡◌, ◌≤◌};
 ghost use Rattle.accumulators.specs.Figures.{most_rows};
 
 use crate::capacity::{ROWS, make_room};

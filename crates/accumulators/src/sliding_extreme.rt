@@ -2,9 +2,8 @@
 
 ghost use Rattle.std.specs.Prelude.{◌≡◌, ◌+◌, ◌≤◌, ◌∷◌, ◌++◌, map, length, None};
 ghost use Rattle.std.specs.Option.{option_map};
-ghost use Rattle.rows.specs.Rows.{kept};
 ghost use Rattle.accumulators.specs.Figures.{most_kept, Within};
-ghost use Rattle.rows.specs.Rows.{non_null};
+ghost use Rattle.rows.specs.Rows.{kept, non_null};
 ghost use Rattle.accumulators.specs.Sql.{IsMinOrMax};
 ghost use Rattle.accumulators.specs.Extremes.{best as best_key};
 ghost use Rattle.accumulators.specs.SlidingExtremes.{sliding_extreme, oldest_dropped, pairs};

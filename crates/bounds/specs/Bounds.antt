@@ -1,5 +1,5 @@
 -- Bounds of a frame (docs/RULES.md, sections 5.1 and 5.5). Assumes nothing.
-use Rattle.std.specs.Prelude.{ℕ, Bool, true, false, ℤ, pos, neg_ℤ, Some, None, Option, int_lt, nat_lt}
+use Rattle.std.specs.Prelude.{ℕ, ◌^◌, ◌<ℤ◌, Bool, true, false, ℤ, pos, neg_ℤ, Some, None, Option, int_lt, nat_lt}
 use Rattle.bounds.specs.declared.bound.WindowFrameBound.{WindowFrameBound}
 use Rattle.bounds.specs.declared.bound.WindowFrameBound.TheVariants.{UnboundedPreceding, Preceding, CurrentRow, Following, UnboundedFollowing}
 
@@ -17,6 +17,10 @@ unbounded (Preceding n) = false
 unbounded CurrentRow = false
 unbounded (Following n) = false
 unbounded UnboundedFollowing = true
+
+-- less than 2^64 from 0, as the offset of every bound is, and every place
+abbrev pub IsNear : ℤ → Type 0
+IsNear z = (neg_ℤ (pos (2 ^ 64)) <ℤ z) × (z <ℤ pos (2 ^ 64))
 
 -- n FOLLOWING lies n behind the row, CURRENT ROW at it, and n PRECEDING n before it
 abbrev pub offset : WindowFrameBound → Option ℤ

@@ -1,7 +1,7 @@
 //! Bounds of a frame, as SQL writes them.
 
-ghost use Rattle.std.specs.Prelude.{◌≡◌, ◌^◌, pos, neg_ℤ, ◌<ℤ◌, IfSome};
-ghost use Rattle.bounds.specs.Bounds.{mirrored, offset, behind, beyond, distant, unbounded};
+ghost use Rattle.std.specs.Prelude.{◌≡◌, IfSome};
+ghost use Rattle.bounds.specs.Bounds.{IsNear, mirrored, offset, behind, beyond, distant, unbounded};
 
 /// Where a frame starts or ends, seen from its row.
 #[derive(Clone, Copy, PartialEq, Eq, Debug)]
@@ -60,7 +60,7 @@ impl WindowFrameBound {
     /// How far behind its row the bound lies; before it, where this is negative.
     pub fn offset(self) -> Option<i128>
         ensures value { result ≡ offset self }
-        ensures near { IfSome result (λ by. (neg_ℤ (pos (2 ^ 64)) <ℤ by) × (by <ℤ pos (2 ^ 64))) }
+        ensures near { IfSome result IsNear }
     {
         match self {
             WindowFrameBound::Preceding(n) => Some(-i128::from(n)),

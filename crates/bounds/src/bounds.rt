@@ -1,7 +1,7 @@
 //! The two bounds of a frame, checked.
 
 ghost use Rattle.std.specs.Prelude.{◌≡◌, false, IfOk};
-ghost use Rattle.bounds.specs.Bounds.{behind, beyond, is_unbounded_following, is_unbounded_preceding, mirrored};
+ghost use Rattle.bounds.specs.Bounds.{behind, is_unbounded_following, is_unbounded_preceding, mirrored};
 ghost use Rattle.bounds.specs.Reasons.{bound_reasons, first_reason, reason_of};
 
 use crate::bound::WindowFrameBound;

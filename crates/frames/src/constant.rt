@@ -1,7 +1,6 @@
 //! The frame of all rows.
 
 ghost use Rattle.std.specs.Prelude.{◌≡◌, false};
-ghost use Rattle.frames.specs.Columns.{column};
 ghost use Rattle.frames.specs.Constant.{constant_rule};
 ghost use Rattle.frames.specs.ConstantFrames.{constant_lawful};
 

@@ -1,6 +1,6 @@
 //! The interface of frame rules, each told by the frames that it gives.
 
-ghost use Rattle.std.specs.Prelude.{◌≡◌, Option as Opt};
+ghost use Rattle.std.specs.Prelude.{◌≡◌};
 ghost use Rattle.frames.specs.Columns.{column};
 ghost use Rattle.frames.specs.Rules.{Rule};
 ghost use Rattle.frames.specs.Laws.{Lawful};

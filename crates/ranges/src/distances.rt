@@ -1,9 +1,8 @@
 //! RANGE by distance, for measured kinds.
 
-ghost use Rattle.std.specs.Prelude.{◌≡◌, ◌^◌, false, not, ◌&&◌, ◌||◌, ◌++◌, pos, negsuc, ◌+ℤ◌, ◌-ℤ◌, ◌≤ℤ◌, ◌<ℤ◌, is_some, IfOk, if◌then◌else◌, Some as Val};
-ghost use Rattle.bounds.specs.Bounds.{beyond, distant, offset};
+ghost use Rattle.std.specs.Prelude.{◌≡◌, false, not, ◌&&◌, ◌||◌, ◌++◌, is_some, IfOk};
+ghost use Rattle.bounds.specs.Bounds.{beyond, distant};
 ghost use Rattle.bounds.specs.Reasons.{bound_reasons, first_reason, order_reasons, reason_of};
-ghost use Rattle.frames.specs.Standard.{moved};
 ghost use Rattle.std.proofs.Common.{rules, arith};
 
 use crate::units::RangeUnits;

@@ -1,8 +1,6 @@
 //! RANGE frames of the same rows where they come in reverse.
 
-ghost use Rattle.std.specs.Prelude.{◌≡◌};
 ghost use Rattle.bounds.specs.PeerBounds.{as_bound};
-ghost use Rattle.frames.specs.Mirrors.{Shape, mirror};
 ghost use Rattle.ranges.specs.WindowFrames.{either_shape};
 
 use crate::distances::Distances;

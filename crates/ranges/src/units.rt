@@ -1,8 +1,8 @@
 //! What the bounds of a RANGE frame mean: peers for every ordered kind, distances for measured ones.
 
-ghost use Rattle.std.specs.Prelude.{◌≡◌, ℕ, ◌^◌, pos, neg_ℤ, ◌<ℤ◌, MatchOption, Some as Val, None as Missing};
+ghost use Rattle.std.specs.Prelude.{◌≡◌, ℕ, MatchOption, Some as Val, None as Missing};
 ghost use Rattle.std.proofs.Math.IntN.{sub_ℕ};
-ghost use Rattle.bounds.specs.Bounds.{offset};
+ghost use Rattle.bounds.specs.Bounds.{IsNear, offset};
 ghost use Rattle.frames.specs.Standard.{moved};
 ghost use Rattle.frames.specs.Mirrors.{Shape};
 ghost use Rattle.ranges.specs.Ranges.{WellMade, removes_before, removes_behind};
@@ -17,20 +17,17 @@ fn target(
     bound: WindowFrameBound,
     place: i128,
 ) -> Option<(SortOptions, i128)>
-    requires low { neg_ℤ (pos (2 ^ 64)) <ℤ place }
-    requires high { place <ℤ pos (2 ^ 64) }
+    requires { IsNear place }
     ensures { MatchOption result (moved order_by (offset bound) (Val place) ≡ Missing) (λ t. (order_by ≡ Val t.0) × (moved order_by (offset bound) (Val place) ≡ Val t.1)) }
 {
     let sort = order_by?;
     let by = bound.offset()?;
-    Some((
-        sort,
-        if sort.descending {
-            place - by
-        } else {
-            place + by
-        },
-    ))
+    let at = if sort.descending {
+        place - by
+    } else {
+        place + by
+    };
+    Some((sort, at))
 }
 
 /// Two bounds of RANGE, and how they are held against the rows.
@@ -52,8 +49,7 @@ pub trait RangeUnits<O: Ordered>: Copy {
     /// The place of an order value.
     fn place(&self, value: O) -> i128
         ensures value { result ≡ sub_ℕ (O.Ordered.keyed value) base }
-        ensures low { neg_ℤ (pos (2 ^ 64)) <ℤ result }
-        ensures high { result <ℤ pos (2 ^ 64) };
+        ensures near { IsNear result };
 
     /// Whether `value` sorts before the target of the start, seen from a row with the value `here`.
     fn is_before_start(&self, here: O, value: O) -> bool
