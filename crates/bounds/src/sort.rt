@@ -3,7 +3,7 @@
 ghost use Rattle.std.specs.Prelude.{◌≡◌};
 ghost use Rattle.bounds.specs.Orders.{sorts_before, turned};
 
-// A flag, and not an enum: so the Rust has it, and its readers look for it.
+// A flag and not an enum, as in the Rust, whose readers look for it.
 /// The direction in which the order values of a partition run.
 #[derive(Clone, Copy, PartialEq, Eq, Debug)]
 pub struct SortOptions {

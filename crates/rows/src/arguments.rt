@@ -8,7 +8,7 @@ ghost use Rattle.rows.specs.Lengths.{Measures};
 use crate::misfit::Misfit;
 use std::marker::Model;
 
-// Three columns side by side, and bytes for yes and no: so the instrument lends them.
+// Three columns side by side, with bytes for yes and no, as the instrument lends them.
 /// A part of the columns, seen as its rows. Nothing is copied: the rows stay where the caller has them.
 #[derive(Drop)]
 pub struct Arguments<'a, V> {
