@@ -33,7 +33,7 @@ impl<'r, 'a, V: Copy> Iterator for Kept<'r, 'a, V> {
     ghost remaining = { item_count (λ s. s) };
 
     fn next(&mut self) -> Option<Option<V>> {
-        // `find_map` would lend `left` out, and no proof learns then where it stopped.
+        // Not `for` over `by_ref`: once that loan of `left` is over, no proof knows where it stopped.
         while let Some(i) = self.left.next() {
             if let Some(argument) = self.rows.row(i) {
                 return Some(argument);
