@@ -27,6 +27,7 @@ pub struct SlidingExtreme<V, D> {
     ring: Ring,
     kind: PhantomData<V>,
     direction: PhantomData<D>,
+    ghost few: { length ring ≤ most_kept },
 }
 
 /// Puts the rows of a batch into the ring, behind the newest.
