@@ -41,11 +41,14 @@ impl<'a, V: Copy> Arguments<'a, V> {
     {
         let mut rows = 0;
         let mut present = 0;
-        for argument in self.iter() {
-            rows += 1;
-            if let Some(value) = argument {
-                present += 1;
-                figure.gather(value);
+        // By number, not over `iter`: it passes rows over in a loop of its own, and the compiler then takes one row at a time.
+        for i in 0..self.len() {
+            if let Some(argument) = self.row(i) {
+                rows += 1;
+                if let Some(value) = argument {
+                    present += 1;
+                    figure.gather(value);
+                }
             }
         }
         Tally { rows, present }
