@@ -27,6 +27,7 @@ pub struct SlidingExtreme<V, D> {
     ring: Ring,
     kind: PhantomData<V>,
     direction: PhantomData<D>,
+    // The ring knows this of itself, but who holds a sliding extreme sees of the ring its list alone.
     ghost few: { length ring ≤ most_kept },
 }
 
